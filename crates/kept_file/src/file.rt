@@ -1,0 +1,190 @@
+//! A file that is open.
+ghost use Rattle.std.specs.Prelude.{◌≡◌, true, IfOk};
+ghost use Rattle.std.specs.Borrow.{sem};
+ghost use Rattle.kept_file.specs.Lending.{LendsConnection};
+
+use crate::counts::{self, EntryCounts};
+use crate::entries::Entries;
+use crate::fault::{KeepFault, read_fault, write_fault};
+use crate::query::number_of;
+use crate::rows::{self, KeptProgram};
+use crate::save::{Save, make_tables};
+use crate::schema::{self, FORMAT};
+use sqlite::{Alter, Connection, File, FileStore, Unknown, params};
+use std::alloc::Global;
+use std::fs;
+use std::io::Read;
+
+const COUNT_OBJECTS: &str = "SELECT count(*) FROM sqlite_schema";
+
+const COUNT_TEXTS: &str = "SELECT count(*) FROM sqlite_schema WHERE sql = ?1";
+
+const SETTING: &str = "SELECT value FROM settings WHERE name = ?1";
+
+/// The store of a file on the disk.
+pub type OnDisk = FileStore<File>;
+
+/// A file that is open. Nobody else can open it until it is dropped or closed.
+pub struct KeptFile<S: Alter> {
+    conn: Connection<S>,
+}
+
+impl<S: Alter + Drop> Drop for KeptFile<S> {
+    fn drop(self) {
+        let KeptFile { conn: _ } = self;
+    }
+}
+
+/// Tells whether a file begins as a SQLite database does.
+fn begins_as_database(rt: &HostRuntime, path: &str) -> bool {
+    let Ok(mut file) = fs::File::open(rt, path) else {
+        return false;
+    };
+    let mut first = [0u8; 16];
+    file.read_exact(&mut first).is_ok() && first == *b"SQLite format 3\0"
+}
+
+/// Opens the database at a path, or makes an empty one.
+fn connect(rt: &HostRuntime, path: &str) -> Result<Connection<OnDisk>, KeepFault> {
+    match Connection::open_from(rt, path, true, Unknown) {
+        Ok(conn) => Ok(conn),
+        Err((error, _)) => match read_fault(error) {
+            KeepFault::Damaged if !begins_as_database(rt, path) => Err(KeepFault::NotKept),
+            fault => Err(fault),
+        },
+    }
+}
+
+impl KeptFile<OnDisk> {
+    /// Opens the file at a path, and makes it if there is none, or if it is empty. The whole file is read and tested. A file that is
+    /// refused stays as it is. `NotKept`, `Newer`, `Damaged` and `Busy` as they say; `Unreadable` if it cannot be opened or read,
+    /// `Unwritable` or `Full` if a new one cannot be written, `NoMemory` if a request for memory is refused.
+    pub fn open(rt: &HostRuntime, path: &str) -> Result<KeptFile<OnDisk>, KeepFault> {
+        let mut file = KeptFile {
+            conn: connect(rt, path)?,
+        };
+        if file.has_no_tables()? {
+            file.make()?;
+        } else {
+            file.check()?;
+        }
+        Ok(file)
+    }
+
+    /// Opens a file that is there, and makes none: `Unreadable` if there is none. The faults of `open` beside this one.
+    pub fn open_existing(rt: &HostRuntime, path: &str) -> Result<KeptFile<OnDisk>, KeepFault> {
+        match fs::metadata(rt, path) {
+            Ok(found) if found.len() == 0 => return Err(KeepFault::NotKept),
+            Ok(_) => {}
+            Err(_) => return Err(KeepFault::Unreadable),
+        }
+        let mut file = KeptFile {
+            conn: connect(rt, path)?,
+        };
+        file.check()?;
+        Ok(file)
+    }
+
+    /// Closes the file, which then has all that was saved: the log beside it can be left behind. If this fails, the two together
+    /// still have it.
+    pub fn close(self) -> Result<(), KeepFault> {
+        let KeptFile { conn } = self;
+        conn.close().map_err(write_fault)
+    }
+}
+
+impl<S: Alter> KeptFile<S> {
+    /// Tells whether the database has no tables.
+    fn has_no_tables(&mut self) -> Result<bool, KeepFault> {
+        let objects = number_of(&mut self.conn, COUNT_OBJECTS, &[]).map_err(read_fault)?;
+        Ok(objects == Some(0))
+    }
+
+    /// Makes the tables, in one transaction.
+    fn make(&mut self) -> Result<(), KeepFault> {
+        let mut save = self.begin()?;
+        make_tables(&mut save)?;
+        save.commit().map_err(write_fault)
+    }
+
+    /// Tests whether the database has the tables that `make` makes. `Newer` if a later server made it; else `NotKept`.
+    fn check(&mut self) -> Result<(), KeepFault> {
+        match self.setting("format") {
+            Ok(FORMAT) => {}
+            Ok(format) if format > FORMAT => return Err(KeepFault::Newer { format }),
+            Err(KeepFault::NoMemory) => return Err(KeepFault::NoMemory),
+            Err(KeepFault::Unreadable) => return Err(KeepFault::Unreadable),
+            _ => return Err(KeepFault::NotKept),
+        }
+        let objects = number_of(&mut self.conn, COUNT_OBJECTS, &[]).map_err(read_fault)?;
+        let known = self.known_tables()?;
+        if objects == Some(schema::OBJECTS) && known {
+            Ok(())
+        } else {
+            Err(KeepFault::NotKept)
+        }
+    }
+
+    /// Tells whether each table is there, by its text.
+    fn known_tables(&mut self) -> Result<bool, KeepFault> {
+        for text in schema::TABLES {
+            let found = number_of(&mut self.conn, COUNT_TEXTS, params![text]).map_err(read_fault)?;
+            if found != Some(1) {
+                return Ok(false);
+            }
+        }
+        Ok(true)
+    }
+
+    /// Returns the number that a setting has, and 0 if it has none.
+    fn setting(&mut self, name: &str) -> Result<u64, KeepFault> {
+        let number = number_of(&mut self.conn, SETTING, params![name]).map_err(read_fault)?;
+        Ok(number.unwrap_or(0))
+    }
+
+    /// Returns how many stripes the map had that was saved last, and 0 if none was saved yet.
+    pub fn stripes(&mut self) -> Result<u64, KeepFault> {
+        self.setting("stripes")
+    }
+
+    /// Reads the programs in the order of their numbers, which are 0, 1 and so on. `Damaged` if one is missing, or a row is no
+    /// program's; `Unreadable` if the disk failed; `NoMemory` if a request for memory was refused.
+    pub fn programs(&mut self, alloc: Global) -> Result<Vec<KeptProgram>, KeepFault> {
+        rows::programs(alloc, &mut self.conn)
+    }
+
+    /// Reads the texts of the scripts in the order in which they were loaded. The faults of `programs`.
+    pub fn scripts(&mut self, alloc: Global) -> Result<Vec<Vec<u8>>, KeepFault> {
+        rows::scripts(alloc, &mut self.conn)
+    }
+
+    /// Begins to read the entries. The faults of `Entries::next`.
+    pub fn entries(&mut self) -> Result<Entries<'_, S>, KeepFault> {
+        let stripes = self.stripes()?;
+        Entries::new(&mut self.conn, stripes)
+    }
+
+    /// Reads all entries, tests each, and counts them. The faults of `Entries::next`.
+    pub fn count(&mut self) -> Result<EntryCounts, KeepFault> {
+        let mut entries = self.entries()?;
+        counts::count(&mut entries)
+    }
+
+    /// Returns the connection to the database, for a transaction. If it is no save's, the file may have what no other call here reads.
+    pub fn connection(&mut self) -> &mut Connection<S>
+        ensures* lends { sem 𝓛 (LendsConnection S.row S.Store self.entry result) }
+        ensures value { result.now ≡ self.old.conn }
+    {
+        &mut self.conn
+    }
+
+    /// Begins a save, which `commit` ends. `Unwritable` if an earlier one has not ended, which cannot be.
+    pub fn begin(&mut self) -> Result<Save<'_, S>, KeepFault>
+        ensures { IfOk result (λ save. save.conn.now ≡ record self.old.conn { in_transaction = true }) }
+    {
+        if !self.conn.is_autocommit() {
+            return Err(KeepFault::Unwritable);
+        }
+        Ok(self.conn.transaction())
+    }
+}

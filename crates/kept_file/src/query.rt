@@ -1,0 +1,47 @@
+//! Single numbers of a database, and columns of rows.
+ghost use Rattle.std.specs.Prelude.{◌≡◌, IfOk};
+ghost use Rattle.sqlite.specs.Order.{column};
+ghost use Rattle.sqlite.specs.Values.{or_null};
+ghost use Rattle.sqlite.specs.declared.types.Value.TheVariants.{Blob};
+ghost use Rattle.kept_file.specs.Rows.{number};
+
+use crate::fault::{KeepFault, read_fault};
+use sqlite::types::ValueRef;
+use sqlite::{Alter, Connection, Error as SqlError, Row};
+
+/// Returns the number that a query shows first, if it shows any row.
+pub(crate) fn number_of<S: Alter>(
+    conn: &mut Connection<S>,
+    sql: &str,
+    params: &[ValueRef<'_>],
+) -> Result<Option<u64>, SqlError> {
+    match conn.query_row(sql, params) {
+        Ok(row) => Ok(Some(row.get(0)?)),
+        Err(SqlError::QueryReturnedNoRows) => Ok(None),
+        Err(error) => Err(error),
+    }
+}
+
+/// Returns the bytes in a column. `Damaged` if it has no bytes.
+pub(crate) fn bytes_at(row: &Row, at: usize) -> Result<&[u8], KeepFault>
+    ensures { IfOk result (λ bytes. column row.now at ≡ Blob bytes.now) }
+{
+    match row.get_ref(at) {
+        Ok(ValueRef::Blob(bytes)) => Ok(bytes),
+        _ => Err(KeepFault::Damaged),
+    }
+}
+
+/// Returns the number in a column. `Damaged` if it has none, or a negative one.
+pub(crate) fn number_at(row: &Row, at: usize) -> Result<u64, KeepFault>
+    ensures { IfOk result (λ n. column row.now at ≡ number n) }
+{
+    row.get(at).map_err(read_fault)
+}
+
+/// Returns the number in a column that may have none. `Damaged` if it has something else, or a negative number.
+pub(crate) fn number_or_none_at(row: &Row, at: usize) -> Result<Option<u64>, KeepFault>
+    ensures { IfOk result (λ n. column row.now at ≡ or_null number n) }
+{
+    row.get(at).map_err(read_fault)
+}

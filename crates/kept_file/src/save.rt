@@ -1,0 +1,161 @@
+//! What a save writes, in one transaction. After a fault drop the save: a commit would keep what was made before it.
+ghost use Rattle.std.specs.Prelude.{◌≡◌, pos, [], ◌∷◌, Some, None, OnOk, option_map};
+ghost use Rattle.sqlite.specs.Held.{state};
+ghost use Rattle.sqlite.specs.State.{HasCleanDisk, Survives};
+ghost use Rattle.sqlite.specs.Values.{bound};
+ghost use Rattle.sqlite.specs.declared.types.Value.TheVariants.{Blob};
+ghost use Rattle.kept_file.specs.Rows.{kept_number, number, entry_row, program_row, stripes_row};
+ghost use Rattle.kept_file.specs.Saves.{Makes};
+
+use crate::fault::{KeepFault, write_fault};
+use crate::schema::{FORMAT, PROGRAM, PUT, REMOVE, SCRIPT, SET, START_ANEW, TABLES};
+use bpf_model::Sizes;
+use sqlite::types::ValueRef;
+use sqlite::{Alter, Transaction, params};
+
+/// A save in hand. The file on the disk stays as it was before `KeptFile::begin` until `commit`, and for good if the save is
+/// dropped. The faults of the calls below are `Unwritable` or `Full` if the disk failed, and `NoMemory` if a request for memory was
+/// refused.
+pub type Save<'file, S> = Transaction<'file, S>;
+
+/// Returns the number as a file keeps it: itself, or the greatest that there is room for.
+fn kept(n: u64) -> i64
+    ensures { result ≡ pos (kept_number n) }
+{
+    i64::try_from(n).unwrap_or(i64::MAX)
+}
+
+fn run<S: Alter>(
+    save: &mut Save<'_, S>,
+    sql: &str,
+    params: &[ValueRef<'_>],
+) -> Result<(), KeepFault>
+    ensures same_reference { save.new.conn.ghost_name ≡ save.old.conn.ghost_name }
+    ensures made { HasCleanDisk (state S.Store save.new.conn.now) → OnOk result
+        (Makes sql.now (bound params.now) (state S.Store save.old.conn.now) (state S.Store save.new.conn.now)) }
+    ensures kept { Survives (state S.Store save.old.conn.now) (state S.Store save.new.conn.now) (λ _. ⊥) }
+{
+    match save.execute(sql, params) {
+        Ok(_) => Ok(()),
+        Err(error) => Err(write_fault(error)),
+    }
+}
+
+/// Makes the tables of a new file.
+pub(crate) fn make_tables<S: Alter>(save: &mut Save<'_, S>) -> Result<(), KeepFault> {
+    for text in TABLES {
+        run(save, text, &[])?;
+    }
+    run(save, SET, params!["format", kept(FORMAT)])
+}
+
+/// Notes how many stripes the map has.
+pub fn set_stripes<S: Alter>(save: &mut Save<'_, S>, stripes: u64) -> Result<(), KeepFault>
+    ensures same_reference { save.new.conn.ghost_name ≡ save.old.conn.ghost_name }
+    ensures made { HasCleanDisk (state S.Store save.new.conn.now) → OnOk result
+        (Makes SET.now (stripes_row (kept_number stripes)) (state S.Store save.old.conn.now) (state S.Store save.new.conn.now)) }
+    ensures kept { Survives (state S.Store save.old.conn.now) (state S.Store save.new.conn.now) (λ _. ⊥) }
+{
+    run(save, SET, params!["stripes", kept(stripes)])
+}
+
+/// Takes away all entries of a stripe.
+pub fn start_anew<S: Alter>(save: &mut Save<'_, S>, stripe: u64) -> Result<(), KeepFault>
+    ensures same_reference { save.new.conn.ghost_name ≡ save.old.conn.ghost_name }
+    ensures made { HasCleanDisk (state S.Store save.new.conn.now) → OnOk result
+        (Makes START_ANEW.now (number (kept_number stripe) ∷ []) (state S.Store save.old.conn.now) (state S.Store save.new.conn.now)) }
+    ensures kept { Survives (state S.Store save.old.conn.now) (state S.Store save.new.conn.now) (λ _. ⊥) }
+{
+    run(save, START_ANEW, params![kept(stripe)])
+}
+
+/// Enters an entry that has no deadline.
+fn put_for_good<S: Alter>(
+    save: &mut Save<'_, S>,
+    stripe: u64,
+    key: &[u8],
+    value: &[u8],
+) -> Result<(), KeepFault>
+    ensures same_reference { save.new.conn.ghost_name ≡ save.old.conn.ghost_name }
+    ensures made { HasCleanDisk (state S.Store save.new.conn.now) → OnOk result
+        (Makes PUT.now (entry_row (kept_number stripe) key.now value.now None) (state S.Store save.old.conn.now) (state S.Store save.new.conn.now)) }
+    ensures kept { Survives (state S.Store save.old.conn.now) (state S.Store save.new.conn.now) (λ _. ⊥) }
+{
+    run(save, PUT, params![kept(stripe), key, value, None::<i64>])
+}
+
+/// Enters an entry that has a deadline.
+fn put_until<S: Alter>(
+    save: &mut Save<'_, S>,
+    stripe: u64,
+    key: &[u8],
+    value: &[u8],
+    deadline: u64,
+) -> Result<(), KeepFault>
+    ensures same_reference { save.new.conn.ghost_name ≡ save.old.conn.ghost_name }
+    ensures made { HasCleanDisk (state S.Store save.new.conn.now) → OnOk result
+        (Makes PUT.now (entry_row (kept_number stripe) key.now value.now (Some (kept_number deadline))) (state S.Store save.old.conn.now) (state S.Store save.new.conn.now)) }
+    ensures kept { Survives (state S.Store save.old.conn.now) (state S.Store save.new.conn.now) (λ _. ⊥) }
+{
+    run(save, PUT, params![kept(stripe), key, value, kept(deadline)])
+}
+
+/// Enters an entry, in place of the one that its key has in this stripe.
+pub fn put<S: Alter>(
+    save: &mut Save<'_, S>,
+    stripe: u64,
+    key: &[u8],
+    value: &[u8],
+    deadline: Option<u64>,
+) -> Result<(), KeepFault>
+    ensures same_reference { save.new.conn.ghost_name ≡ save.old.conn.ghost_name }
+    ensures made { HasCleanDisk (state S.Store save.new.conn.now) → OnOk result
+        (Makes PUT.now (entry_row (kept_number stripe) key.now value.now (option_map kept_number deadline)) (state S.Store save.old.conn.now) (state S.Store save.new.conn.now)) }
+    ensures kept { Survives (state S.Store save.old.conn.now) (state S.Store save.new.conn.now) (λ _. ⊥) }
+{
+    match deadline {
+        None => put_for_good(save, stripe, key, value),
+        Some(deadline) => put_until(save, stripe, key, value, deadline),
+    }
+}
+
+/// Takes away the entry that a key has in a stripe, if there is one.
+pub fn remove<S: Alter>(save: &mut Save<'_, S>, stripe: u64, key: &[u8]) -> Result<(), KeepFault>
+    ensures same_reference { save.new.conn.ghost_name ≡ save.old.conn.ghost_name }
+    ensures made { HasCleanDisk (state S.Store save.new.conn.now) → OnOk result
+        (Makes REMOVE.now (number (kept_number stripe) ∷ Blob key.now ∷ []) (state S.Store save.old.conn.now) (state S.Store save.new.conn.now)) }
+    ensures kept { Survives (state S.Store save.old.conn.now) (state S.Store save.new.conn.now) (λ _. ⊥) }
+{
+    run(save, REMOVE, params![kept(stripe), key])
+}
+
+/// Adds a program. No program of the file may have its number: else `Damaged`, and nothing is added.
+pub fn program<S: Alter>(
+    save: &mut Save<'_, S>,
+    number: u64,
+    sizes: &Sizes,
+    bytes: &[u8],
+) -> Result<(), KeepFault>
+    ensures same_reference { save.new.conn.ghost_name ≡ save.old.conn.ghost_name }
+    ensures made { HasCleanDisk (state S.Store save.new.conn.now) → OnOk result
+        (Makes PROGRAM.now (program_row (kept_number number) sizes.now bytes.now) (state S.Store save.old.conn.now) (state S.Store save.new.conn.now)) }
+    ensures kept { Survives (state S.Store save.old.conn.now) (state S.Store save.new.conn.now) (λ _. ⊥) }
+{
+    let (key, old) = (i64::from(sizes.key), i64::from(sizes.old));
+    let (arg, result) = (i64::from(sizes.arg), i64::from(sizes.result));
+    run(
+        save,
+        PROGRAM,
+        params![kept(number), key, old, arg, result, bytes],
+    )
+}
+
+/// Adds a script, after those that the file has.
+pub fn script<S: Alter>(save: &mut Save<'_, S>, text: &[u8]) -> Result<(), KeepFault>
+    ensures same_reference { save.new.conn.ghost_name ≡ save.old.conn.ghost_name }
+    ensures made { HasCleanDisk (state S.Store save.new.conn.now) → OnOk result
+        (Makes SCRIPT.now (Blob text.now ∷ []) (state S.Store save.old.conn.now) (state S.Store save.new.conn.now)) }
+    ensures kept { Survives (state S.Store save.old.conn.now) (state S.Store save.new.conn.now) (λ _. ⊥) }
+{
+    run(save, SCRIPT, params![text])
+}

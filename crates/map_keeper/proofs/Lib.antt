@@ -1,0 +1,2 @@
+pub mod SaveLemmas
+pub mod WriteLemmas

@@ -1,0 +1,13 @@
+use Rattle.std.proofs.Common.{◌≡◌}
+use Rattle.sqlite.specs.Held.{state}
+use Rattle.sqlite.specs.State.{HasCleanDisk, Survives}
+use Rattle.map_keeper.specs.Written.{WritesOthers}
+use Rattle.map_keeper.proofs.saving.drop_stripes.Given as goal
+
+-- the statements so far were made
+abbrev pub invariant-loop-stripe : goal.invariant-loop-stripe
+invariant-loop-stripe g l = record {
+  same_reference : l.save.conn.ghost_name ≡ l.fn.save.conn.ghost_name;
+  wrote : HasCleanDisk (state g.S.Store l.save.conn.now) → WritesOthers (state g.S.Store) l.from l.fn.save.conn.now l.save.conn.now;
+  kept : Survives (state g.S.Store l.fn.save.conn.now) (state g.S.Store l.save.conn.now) (λ _. ⊥);
+}

@@ -1,0 +1,4 @@
+pub mod Keepers
+pub mod Saves
+pub mod Restores
+pub mod Written

@@ -1,0 +1,122 @@
+-- What a save writes into its file: the statements that the rows ask for which it hands out.
+use Rattle.std.specs.Prelude.{◌≡◌, ◌⊎◌, ℕ, zero, suc, ◌≤◌, Bool, if◌then◌else◌, List, [], ◌∷◌, ◌++◌, map, Option, Some, None, All, IsTrue, true, false, ⊤}
+use Rattle.sqlite.specs.Held.{Held}
+use Rattle.sqlite.specs.State.{State, Shows}
+use Rattle.sqlite.specs.Tree.{Trees}
+use Rattle.bpf_model.specs.declared.input.Sizes.{Sizes}
+use Rattle.kept_file.specs.Saves.{Makes}
+use Rattle.kept_file.specs.Statements.{Statement, clearing, putting, removing, noting_stripes, adding_script, adding_program}
+use Rattle.stripe_rule.specs.declared.view.Event.{Event}
+use Rattle.stripe_rule.specs.declared.view.View.{View}
+use Rattle.stripe_rule.specs.Gains.{seen_of, mine_of}
+use Rattle.noted_bins.specs.Rows.{Row, Saved, values_of}
+use Rattle.bin_stripes.specs.declared.ghost_action.GhostAction.{GhostAction}
+use Rattle.bin_stripes.specs.Actions.{Action, saved}
+
+-- what a key of the stripe k has comes into the file, with its deadline; if it has nothing, what the file has of it goes
+abbrev pub entering : ℕ → List ℕ → Saved → Statement
+entering k key None = removing k key
+entering k key (Some entry) = putting k key entry.0 entry.1
+
+-- the statement of a row
+abbrev pub statement_of : ℕ → Row → Statement
+statement_of k row = entering k row.0 row.1
+
+-- what was handed out of a stripe in one hold of it: these rows; if `all`, of all its entries
+pub record Round : Type 0 where
+  pub all : Bool
+  pub rows : List Row
+
+-- the action of a pass that handed them out
+abbrev pub action_of : Round → Action
+action_of round = saved round.all (values_of round.rows)
+
+-- the statements of a round: if it has all entries of the stripe, what the file has of it goes first
+abbrev pub statements_of : ℕ → Round → List Statement
+statements_of k round = (if round.all then clearing k ∷ [] else []) ++ map (statement_of k) round.rows
+
+-- .. of one round after the other
+abbrev pub statements_in : ℕ → List Round → List Statement
+statements_in k [] = []
+statements_in k (round ∷ rounds) = statements_of k round ++ statements_in k rounds
+
+-- the actions of these events
+abbrev pub actions_in : List (Event GhostAction) → List Action
+actions_in events = map (λ (event : Event GhostAction). event.action.action) events
+
+-- if all is taken anew, the first round has all entries of its stripe
+abbrev pub BeginsAnew : Bool → List Round → Type 0
+BeginsAnew anew [] = ⊤
+BeginsAnew anew (first ∷ more) = IsTrue anew → first.all ≡ true
+
+-- the pass made just these rounds on the stripe k since then, and knows others' events between them
+pub record HandsOut (anew : Bool) (old new : View GhostAction) (k : ℕ) (rounds : List Round) : Type 0 where
+  pub start : BeginsAnew anew rounds
+  pub events : List (Event GhostAction)
+  pub made : mine_of new k ≡ mine_of old k ++ events
+  pub actions : actions_in events ≡ map action_of rounds
+  pub more : List (Event GhostAction)
+  pub seen : seen_of new k ≡ seen_of old k ++ more
+
+-- .. and the last event that it has seen there is the last of these
+pub record EndsWithOwn (anew : Bool) (old new : View GhostAction) (k : ℕ) (rounds : List Round) : Type 0 where
+  pub handed : HandsOut anew old new k rounds
+  pub earlier : List (Event GhostAction)
+  pub between : List (Event GhostAction)
+  pub last : Event GhostAction
+  pub mine : handed.events ≡ earlier ++ last ∷ []
+  pub seen : handed.more ≡ between ++ last ∷ []
+
+-- since then the pass saved the stripe k, and the last event that it has seen there is one of this save's
+abbrev pub IsSavedSince : Bool → View GhostAction → View GhostAction → ℕ → Type 0
+IsSavedSince anew old new k = (rounds : List Round) × EndsWithOwn anew old new k rounds
+
+-- a setting, a script or a program comes into the file, or the entries go of a stripe that a map of so many has not
+abbrev pub IsOther : ℕ → Statement → Type 0
+IsOther stripes statement =
+    ((k : ℕ) × (stripes ≤ k) × (statement ≡ clearing k))
+    ⊎ (((count : ℕ) × (statement ≡ noting_stripes count))
+    ⊎ (((text : List ℕ) × (statement ≡ adding_script text))
+    ⊎ ((at : ℕ) × (sizes : Sizes) × (bytes : List ℕ) × (statement ≡ adding_program at sizes bytes))))
+
+-- what a connection over the store S shows is `shown`
+module _ {S : Type 0} (shown : Held S → State) where
+  -- these statements were made one after the other
+  unfoldable pub MakesAll : List Statement → Held S → Held S → Type 0
+  MakesAll [] old new = new ≡ old
+  MakesAll (statement ∷ more) old new = (mid : Held S) × Makes statement.0 statement.1 (shown old) (shown mid) × MakesAll more mid new
+
+  -- the pass saved the stripe k, and the statements of just the rows that it handed out were made
+  pub record SavesStripe (anew : Bool) (old new : View GhostAction) (k : ℕ) (from to : Held S) : Type 0 where
+    pub rounds : List Round
+    pub ends : EndsWithOwn anew old new k rounds
+    pub made : MakesAll (statements_in k rounds) from to
+
+  -- .. each stripe below n, in their order
+  unfoldable pub SavesBelow : Bool → View GhostAction → View GhostAction → ℕ → Held S → Held S → Type 0
+  SavesBelow anew old new zero from to = to ≡ from
+  SavesBelow anew old new (suc k) from to = (mid : Held S) × SavesBelow anew old new k from mid × SavesStripe anew old new k mid to
+
+  -- statements were made that no entry of a stripe of the map has to do with
+  pub record WritesOthers (stripes : ℕ) (from to : Held S) : Type 0 where
+    pub others : List Statement
+    pub are : All (IsOther stripes) others
+    pub made : MakesAll others from to
+
+  -- all stripes of a map of so many, and then the rest
+  pub record WritesAll (anew : Bool) (old new : View GhostAction) (stripes : ℕ) (from to : Held S) : Type 0 where
+    pub mid : Held S
+    pub saved : SavesBelow anew old new stripes from mid
+    pub rest : WritesOthers stripes mid to
+
+  -- one transaction made just that, and was committed
+  pub record SavesMap (anew : Bool) (old new : View GhostAction) (stripes : ℕ) (from to : Held S) : Type 0 where
+    pub last : Held S
+    pub wrote : WritesAll anew old new stripes (record from { in_transaction = true }) last
+    pub committed : Shows (shown last) (shown to) (shown last).now (shown last).now false
+
+  -- what that transaction would leave if it is committed
+  pub record WouldSave (anew : Bool) (old new : View GhostAction) (stripes : ℕ) (from : Held S) (trees : Trees) : Type 0 where
+    pub last : Held S
+    pub wrote : WritesAll anew old new stripes (record from { in_transaction = true }) last
+    pub are : trees ≡ (shown last).now.trees

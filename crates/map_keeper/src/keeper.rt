@@ -1,0 +1,114 @@
+//! What keeps a map in a file.
+ghost use Rattle.std.specs.Prelude.{◌≡◌, ℕ, ◌<◌, true, false, IfOk, OnOk, OnErr};
+ghost use Rattle.bin_stripes.specs.Passes.{ServesSameMap, stripes_of};
+ghost use Rattle.sqlite.specs.Held.{state};
+ghost use Rattle.sqlite.specs.State.{HasCleanDisk, Survives};
+ghost use Rattle.map_keeper.specs.Saves.{IsWhole, MadeOnlySaves};
+ghost use Rattle.map_keeper.specs.Written.{IsSavedSince, SavesMap, WouldSave};
+
+use crate::fault::RestoreFault;
+use crate::taker::Taker;
+use bin_stripes::{Pass, StripedMap};
+use kept_file::{KeepFault, KeptFile, OnDisk};
+use noted_bins::Changes;
+use program_registry::Registry;
+use redis_scripts::Scripts;
+use sqlite::Alter;
+use std::alloc::Global;
+use std::sync::Wait;
+
+/// What is kept: a map, its programs and its scripts.
+#[derive(Clone, Copy)]
+pub struct Shared<'a, 'r> {
+    pub map: &'a StripedMap,
+    pub registry: &'a Registry,
+    pub scripts: &'a Scripts<'r>,
+}
+
+/// What the file has of what is kept.
+#[derive(Clone, Copy, Debug, PartialEq, Eq)]
+pub(crate) struct InFile {
+    /// The stripes of the map that saved last; 0 if none did.
+    pub(crate) stripes: u64,
+    pub(crate) programs: u64,
+    pub(crate) scripts: usize,
+}
+
+/// What the file has, and whether a save takes every stripe anew.
+#[derive(Clone, Copy)]
+pub(crate) struct Had {
+    pub(crate) in_file: InFile,
+    pub(crate) takes_anew: bool,
+}
+
+/// Keeps a map in a file over this store, by a pass of its own.
+#[derive(Drop)]
+pub struct Keeper<S: Alter> {
+    pub(crate) alloc: Global,
+    pub(crate) file: KeptFile<S>,
+    pub(crate) taker: Taker,
+    pub(crate) in_file: InFile,
+    /// Whether the next save takes every stripe anew: none came before it, or the last one failed.
+    pub(crate) takes_anew: bool,
+}
+
+impl<S: Alter + Drop> Keeper<S> {
+    /// Keeps a map in this file by this pass, which nothing else uses. The faults of `KeptFile::stripes`.
+    pub fn new(alloc: Global, file: KeptFile<S>, pass: Pass) -> Result<Keeper<S>, RestoreFault>
+        ensures pass { IfOk result (λ keeper. keeper.taker.pass ≡ pass) }
+        ensures anew { IfOk result (λ keeper. keeper.takes_anew ≡ true) }
+    {
+        let mut file = file;
+        let stripes = file.stripes()?;
+        Ok(Keeper {
+            alloc,
+            file,
+            taker: Taker {
+                pass,
+                changes: Changes::new(alloc),
+            },
+            in_file: InFile {
+                stripes,
+                programs: 0,
+                scripts: 0,
+            },
+            takes_anew: true,
+        })
+    }
+
+    /// Saves what changed since the last save, in one transaction of the file: of each stripe the rows of the keys that changed, or of
+    /// all its entries if the last save failed or none came before; and programs and scripts that are new. `NoMemory` if a request for
+    /// memory was refused, else a fault of the file; the file stays as it was then. Waits for stripes that others hold, each for a
+    /// moment.
+    pub fn save<R: Wait>(&mut self, rt: &R, shared: &Shared<'_, '_>) -> Result<(), KeepFault>
+        requires map { self.old.taker.pass.map ≡ shared.now.map.now }
+        ensures same { ServesSameMap self.old.taker.pass self.new.taker.pass }
+        ensures made { MadeOnlySaves self.old.taker.pass.view self.new.taker.pass.view }
+        ensures whole { OnOk result ((k : ℕ) → k < stripes_of shared.now.map.now → IsWhole self.new.taker.pass k) }
+        ensures ends { OnOk result ((k : ℕ) → k < stripes_of shared.now.map.now → IsSavedSince self.old.takes_anew self.old.taker.pass.view self.new.taker.pass.view k) }
+        ensures wrote { HasCleanDisk (state S.Store self.new.file.conn) → OnOk result
+            (SavesMap (state S.Store) self.old.takes_anew self.old.taker.pass.view self.new.taker.pass.view (stripes_of shared.now.map.now) self.old.file.conn self.new.file.conn) }
+        ensures crash { Survives (state S.Store self.old.file.conn) (state S.Store self.new.file.conn)
+            (WouldSave (state S.Store) self.old.takes_anew self.old.taker.pass.view self.new.taker.pass.view (stripes_of shared.now.map.now) self.old.file.conn) }
+        ensures ok { OnOk result (self.new.takes_anew ≡ false) }
+        ensures err { OnErr result (self.new.takes_anew ≡ true) }
+    {
+        let had = Had {
+            in_file: self.in_file,
+            takes_anew: self.takes_anew,
+        };
+        self.takes_anew = true;
+        let conn = self.file.connection();
+        let in_file = self.taker.save_all(rt, self.alloc, shared, &had, conn)?;
+        self.in_file = in_file;
+        self.takes_anew = false;
+        Ok(())
+    }
+}
+
+impl Keeper<OnDisk> {
+    /// Closes the file, which then has all that was saved in it alone. If this fails, it has that together with the files beside it.
+    pub fn close(self) -> Result<(), KeepFault> {
+        self.file.close()
+    }
+}

@@ -1,0 +1,195 @@
+//! What workers count.
+ghost use Rattle.std.specs.Prelude.{◌≡◌, ◌-◌};
+
+use std::sync::atomic::{AtomicU64, Ordering};
+
+/// What was counted since the server began.
+#[derive(Clone, Copy, Debug, Default, PartialEq, Eq, Drop)]
+pub struct Counts {
+    /// Clients that came, of both ports, also those that were turned away.
+    pub clients_came: u64,
+    /// Clients that came and left.
+    pub clients_left: u64,
+    /// Clients that came and were turned away, since there was no room for them.
+    pub clients_refused: u64,
+    /// Commands of Redis, right ones and wrong ones.
+    pub commands: u64,
+    /// Requests in frames.
+    pub requests: u64,
+    /// Commands or requests that walked over the whole map.
+    pub walks: u64,
+    /// Commands and requests to which memory was refused.
+    pub refusals: u64,
+    /// Entries that a sweep took away, since their time was over.
+    pub expired: u64,
+    /// Reads of a key that found a value.
+    pub hits: u64,
+    /// Reads of a key that found none.
+    pub misses: u64,
+}
+
+impl Counts {
+    /// Returns how many clients are there.
+    pub fn clients_here(&self) -> u64
+        ensures { result ≡ self.now.clients_came - self.now.clients_left - self.now.clients_refused }
+    {
+        self.clients_came
+            .saturating_sub(self.clients_left)
+            .saturating_sub(self.clients_refused)
+    }
+
+    /// Returns the sum of both.
+    pub(crate) fn plus(self, other: Counts) -> Counts {
+        Counts {
+            clients_came: self.clients_came.wrapping_add(other.clients_came),
+            clients_left: self.clients_left.wrapping_add(other.clients_left),
+            clients_refused: self.clients_refused.wrapping_add(other.clients_refused),
+            commands: self.commands.wrapping_add(other.commands),
+            requests: self.requests.wrapping_add(other.requests),
+            walks: self.walks.wrapping_add(other.walks),
+            refusals: self.refusals.wrapping_add(other.refusals),
+            expired: self.expired.wrapping_add(other.expired),
+            hits: self.hits.wrapping_add(other.hits),
+            misses: self.misses.wrapping_add(other.misses),
+        }
+    }
+}
+
+/// A number that one thread counts up, and others read.
+#[derive(Drop)]
+struct Counter {
+    number: AtomicU64,
+}
+
+impl Counter {
+    /// Nothing is counted yet.
+    fn new() -> Counter {
+        Counter {
+            number: AtomicU64::new(0),
+        }
+    }
+
+    /// Counts this many more.
+    #[inline(always)]
+    fn add(&self, more: u64) {
+        self.number.fetch_add(more, Ordering::SeqCst);
+    }
+
+    /// Returns the number.
+    fn number(&self) -> u64 {
+        self.number.load(Ordering::SeqCst)
+    }
+}
+
+/// What one worker counted. It has more than 128 bytes, and its last ones are of no use: so the counts of two workers are never on one line
+/// of a processor's cache, and a worker counts without waiting for another.
+#[derive(Drop)]
+pub struct WorkerCounts {
+    clients_came: Counter,
+    clients_left: Counter,
+    clients_refused: Counter,
+    commands: Counter,
+    requests: Counter,
+    walks: Counter,
+    refusals: Counter,
+    expired: Counter,
+    hits: Counter,
+    misses: Counter,
+    apart: [u64; 16],
+}
+
+impl WorkerCounts {
+    /// Nothing is counted yet.
+    pub(crate) fn new() -> WorkerCounts {
+        WorkerCounts {
+            clients_came: Counter::new(),
+            clients_left: Counter::new(),
+            clients_refused: Counter::new(),
+            commands: Counter::new(),
+            requests: Counter::new(),
+            walks: Counter::new(),
+            refusals: Counter::new(),
+            expired: Counter::new(),
+            hits: Counter::new(),
+            misses: Counter::new(),
+            apart: [0; 16],
+        }
+    }
+
+    /// A client came.
+    pub fn count_client(&self) {
+        self.clients_came.add(1);
+    }
+
+    /// A client that came left.
+    pub fn count_leaving(&self) {
+        self.clients_left.add(1);
+    }
+
+    /// A client that came was turned away.
+    pub fn count_refused_client(&self) {
+        self.clients_refused.add(1);
+    }
+
+    /// A command of Redis came.
+    #[inline(always)]
+    pub fn count_command(&self) {
+        self.commands.add(1);
+    }
+
+    /// A request in a frame came.
+    #[inline(always)]
+    pub fn count_request(&self) {
+        self.requests.add(1);
+    }
+
+    /// A command or a request walked over the whole map.
+    pub fn count_walk(&self) {
+        self.walks.add(1);
+    }
+
+    /// Memory was refused to a command or a request.
+    pub fn count_refusal(&self) {
+        self.refusals.add(1);
+    }
+
+    /// A sweep took this many entries away.
+    pub fn count_expired(&self, count: u64) {
+        self.expired.add(count);
+    }
+
+    /// A key was read, and had a value or none.
+    #[inline(always)]
+    pub fn count_read(&self, has_value: bool) {
+        if has_value {
+            self.hits.add(1);
+        } else {
+            self.misses.add(1);
+        }
+    }
+
+    /// Returns what was counted so far.
+    pub(crate) fn so_far(&self) -> Counts {
+        Counts {
+            clients_came: self.clients_came.number(),
+            clients_left: self.clients_left.number(),
+            clients_refused: self.clients_refused.number(),
+            commands: self.commands.number(),
+            requests: self.requests.number(),
+            walks: self.walks.number(),
+            refusals: self.refusals.number(),
+            expired: self.expired.number(),
+            hits: self.hits.number(),
+            misses: self.misses.number(),
+        }
+    }
+}
+
+/// Returns what all of them counted so far.
+pub(crate) fn sum(all: &[WorkerCounts]) -> Counts {
+    let mut counts = Counts::default();
+    for one in all {
+        counts = counts.plus(one.so_far());
+    }
+    counts
+}

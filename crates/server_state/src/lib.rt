@@ -1,0 +1,16 @@
+//! What all threads of a server know of it: which saves were asked for and written, whether the server ends, and what its workers counted.
+//!
+//! A thread that keeps the map in a file takes the last ticket that was asked for (`save_asked`), writes the map, and then says `saved` or
+//! `failed` of that ticket. All who asked before it began are served then. No contract says what another thread does: each number that is
+//! read here may be any.
+#![tactic(auto)]
+
+mod counts;
+mod resident;
+mod saves;
+mod state;
+
+pub use counts::{Counts, WorkerCounts};
+pub use resident::resident_bytes;
+pub use saves::SaveFate;
+pub use state::{ServerState, WorkerState};

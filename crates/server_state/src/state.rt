@@ -1,0 +1,151 @@
+//! What all threads of a server know of it.
+ghost use Rattle.std.specs.Prelude.{◌≡◌, IfOk};
+
+use crate::counts::{Counts, WorkerCounts, sum};
+use crate::saves::{SaveFate, Saves};
+use bpf_model::NoMemory;
+use std::alloc::Global;
+use std::sync::Wait;
+use std::sync::atomic::{AtomicBool, Ordering};
+
+/// What all threads of a server know of it. Times are in milliseconds since the epoch.
+#[derive(Drop)]
+pub struct ServerState {
+    keeps: bool,
+    began: u64,
+    saves: Saves,
+    fails: AtomicBool,
+    ends: AtomicBool,
+    saves_at_end: AtomicBool,
+    workers: Vec<WorkerCounts>,
+    /// What threads counted that are no workers.
+    others: WorkerCounts,
+}
+
+/// What one worker knows of its server, and where it counts.
+#[derive(Clone, Copy)]
+pub struct WorkerState<'a> {
+    /// The server.
+    pub server: &'a ServerState,
+    /// What the worker counts.
+    pub counts: &'a WorkerCounts,
+}
+
+impl ServerState {
+    /// A server that began at this time with this number of workers, and keeps its map in a file or not. `NoMemory` if a request for
+    /// memory was refused.
+    pub fn new(
+        alloc: Global,
+        workers: u64,
+        keeps: bool,
+        began: u64,
+    ) -> Result<ServerState, NoMemory>
+        ensures keeps { IfOk result (λ state. state.keeps ≡ keeps) }
+        ensures began { IfOk result (λ state. state.began ≡ began) }
+    {
+        let mut all = Vec::new(alloc);
+        for _ in 0..workers {
+            all.push(WorkerCounts::new())?;
+        }
+        Ok(ServerState {
+            keeps,
+            began,
+            saves: Saves::new(),
+            fails: AtomicBool::new(false),
+            ends: AtomicBool::new(false),
+            saves_at_end: AtomicBool::new(keeps),
+            workers: all,
+            others: WorkerCounts::new(),
+        })
+    }
+
+    /// Tests whether the server keeps its map in a file.
+    pub fn keeps(&self) -> bool
+        ensures { result ≡ self.now.keeps }
+    {
+        self.keeps
+    }
+
+    /// Returns when the server began.
+    pub fn began(&self) -> u64
+        ensures { result ≡ self.now.began }
+    {
+        self.began
+    }
+
+    /// Asks for a save, and returns its ticket.
+    pub fn ask_save(&self) -> u64 {
+        self.saves.ask()
+    }
+
+    /// Returns the last ticket that was asked for; 0 if none was.
+    pub fn save_asked(&self) -> u64 {
+        self.saves.asked()
+    }
+
+    /// A save that began when this ticket was asked for, or later, is written. The time is that of its end.
+    pub fn saved(&self, ticket: u64, at_millis: u64) {
+        self.fails.store(false, Ordering::SeqCst);
+        self.saves.saved(ticket, at_millis);
+    }
+
+    /// A save that began when this ticket was asked for, or later, could not be written.
+    pub fn failed(&self, ticket: u64) {
+        self.fails.store(true, Ordering::SeqCst);
+        self.saves.failed(ticket);
+    }
+
+    /// Tests whether this ticket's save is written.
+    pub fn is_saved(&self, ticket: u64) -> bool {
+        self.saves.fate(ticket) == SaveFate::Saved
+    }
+
+    /// Tests whether the last save could not be written.
+    pub fn is_failing(&self) -> bool {
+        self.fails.load(Ordering::SeqCst)
+    }
+
+    /// Returns when the last save was written; 0 if none was.
+    pub fn last_save(&self) -> u64 {
+        self.saves.last_save()
+    }
+
+    /// Waits for this ticket's save, a minute at most, and returns what came of it.
+    pub fn wait_for_save<H: Wait>(&self, rt: &H, ticket: u64) -> SaveFate {
+        self.saves.wait_for(rt, ticket)
+    }
+
+    /// The server ends, after a last save or without one.
+    pub fn end(&self, saves: bool) {
+        self.saves_at_end.store(saves, Ordering::SeqCst);
+        self.ends.store(true, Ordering::SeqCst);
+    }
+
+    /// Tests whether the server is to end.
+    pub fn is_ending(&self) -> bool {
+        self.ends.load(Ordering::SeqCst)
+    }
+
+    /// Tests whether the server saves its map before it ends.
+    pub fn saves_at_end(&self) -> bool {
+        self.saves_at_end.load(Ordering::SeqCst)
+    }
+
+    /// Returns where the worker of this number counts.
+    pub fn counts_of(&self, worker: u32) -> &WorkerCounts {
+        self.workers.get(worker as usize).unwrap_or(&self.others)
+    }
+
+    /// Returns what the worker of this number knows of the server.
+    pub fn at(&self, worker: u32) -> WorkerState<'_> {
+        WorkerState {
+            server: self,
+            counts: self.counts_of(worker),
+        }
+    }
+
+    /// Returns what all counted since the server began.
+    pub fn counts(&self) -> Counts {
+        sum(&self.workers).plus(self.others.so_far())
+    }
+}
