@@ -17,6 +17,9 @@ use Rattle.redis_commands.specs.declared.command.WalkCommand.{WalkCommand}
 use Rattle.redis_commands.specs.declared.command.WalkCommand.TheVariants as walk
 use Rattle.redis_commands.specs.declared.command.ConnectionCommand.{ConnectionCommand}
 use Rattle.redis_commands.specs.declared.command.ConnectionCommand.TheVariants as connection
+use Rattle.redis_commands.specs.declared.command.LastSave.{LastSave}
+use Rattle.redis_commands.specs.declared.command.ServerCommand.{ServerCommand}
+use Rattle.redis_commands.specs.declared.command.ServerCommand.TheVariants as server
 use Rattle.redis_commands.specs.declared.command.ProgramCommand.{ProgramCommand}
 use Rattle.redis_commands.specs.declared.command.ProgramCommand.TheVariants as program
 use Rattle.redis_commands.specs.declared.command.Command.{Command}
@@ -61,7 +64,7 @@ pub data WalkAsked : Type 0 where
   RandomKey : WalkAsked
   RemoveAll : WalkAsked
 
--- what is asked of the connection or the server
+-- what is asked of the connection
 pub data ConnectionAsked : Type 0 where
   Ping : Option (List ℕ) → ConnectionAsked
   Echo : List ℕ → ConnectionAsked
@@ -78,8 +81,15 @@ pub data ConnectionAsked : Type 0 where
   CommandCount : ConnectionAsked
   CommandDocs : ConnectionAsked
   Config : List (List ℕ) → ConnectionAsked
-  Info : ConnectionAsked
   Reset : ConnectionAsked
+
+-- what is asked of the server: of `Info` the sections that are named
+pub data ServerAsked : Type 0 where
+  Info : List (List ℕ) → ServerAsked
+  Save : ServerAsked
+  SaveLater : ServerAsked
+  LastSaved : ServerAsked
+  Shutdown : LastSave → ServerAsked
 
 -- what is asked of programs: a text, digests, or a digest or a text with a key and arguments
 pub data ProgramAsked : Type 0 where
@@ -95,6 +105,7 @@ pub data Asked : Type 0 where
   SetEach : List (List ℕ) → Asked
   Walk : WalkAsked → Asked
   Connection : ConnectionAsked → Asked
+  Server : ServerAsked → Asked
   Program : ProgramAsked → Asked
 
 -- why words are no command
@@ -127,6 +138,7 @@ pub data Fault : Type 0 where
   TooManyKeys : Fault
   ScriptShape : Fault
   NoScript : Fault
+  NoDebug : Fault
   WebRequest : Fault
 
 -- ---- how the code shows them: the bytes are borrowed
@@ -184,8 +196,14 @@ connection_by connection.Commands = Commands
 connection_by connection.CommandCount = CommandCount
 connection_by connection.CommandDocs = CommandDocs
 connection_by (connection.Config parameters) = Config (texts parameters.now)
-connection_by connection.Info = Info
 connection_by connection.Reset = Reset
+
+abbrev pub server_by : ServerCommand → ServerAsked
+server_by (server.Info sections) = Info (texts sections.now)
+server_by server.Save = Save
+server_by server.SaveLater = SaveLater
+server_by server.LastSaved = LastSaved
+server_by (server.Shutdown save) = Shutdown save
 
 abbrev pub program_by : ProgramCommand → ProgramAsked
 program_by (program.Load script) = Load script.now
@@ -199,6 +217,7 @@ asked_by (command.OnKeys keys act) = OnKeys (texts keys.now) act
 asked_by (command.SetEach words) = SetEach (texts words.now)
 asked_by (command.Walk walk) = Walk (walk_by walk)
 asked_by (command.Connection connection) = Connection (connection_by connection)
+asked_by (command.Server server) = Server (server_by server)
 asked_by (command.Program program) = Program (program_by program)
 
 abbrev pub fault_by : CommandFault → Fault
@@ -230,6 +249,7 @@ fault_by fault.NegativeKeys = NegativeKeys
 fault_by fault.TooManyKeys = TooManyKeys
 fault_by fault.ScriptShape = ScriptShape
 fault_by fault.NoScript = NoScript
+fault_by fault.NoDebug = NoDebug
 fault_by fault.WebRequest = WebRequest
 
 -- what was read of words: a command, or a fault

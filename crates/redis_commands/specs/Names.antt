@@ -4,7 +4,7 @@ use Rattle.std.specs.Str.{str_eq_ignore_ascii_case}
 use Rattle.redis_commands.specs.declared.name.Arity.{Arity}
 use Rattle.redis_commands.specs.declared.name.Arity.TheVariants.{Exactly, AtLeast, AtMost}
 use Rattle.redis_commands.specs.declared.name.Name.{Name}
-use Rattle.redis_commands.specs.declared.name.Name.TheVariants.{Key, Keys, Walk, Connection, Program, Parent as A_parent}
+use Rattle.redis_commands.specs.declared.name.Name.TheVariants.{Key, Keys, Walk, Connection, Server, Program, Parent as A_parent}
 use Rattle.redis_commands.specs.declared.name.KeyName.{KeyName}
 use Rattle.redis_commands.specs.declared.name.KeyName.TheVariants as k
 use Rattle.redis_commands.specs.declared.name.KeysName.{KeysName}
@@ -13,6 +13,8 @@ use Rattle.redis_commands.specs.declared.name.WalkName.{WalkName}
 use Rattle.redis_commands.specs.declared.name.WalkName.TheVariants as w
 use Rattle.redis_commands.specs.declared.name.ConnectionName.{ConnectionName}
 use Rattle.redis_commands.specs.declared.name.ConnectionName.TheVariants as c
+use Rattle.redis_commands.specs.declared.name.ServerName.{ServerName}
+use Rattle.redis_commands.specs.declared.name.ServerName.TheVariants as s
 use Rattle.redis_commands.specs.declared.name.ProgramName.{ProgramName}
 use Rattle.redis_commands.specs.declared.name.ProgramName.TheVariants as p
 use Rattle.redis_commands.specs.declared.name.Parent.{Parent}
@@ -75,8 +77,15 @@ connection_name_text c.Quit = codes "quit"
 connection_name_text c.Select = codes "select"
 connection_name_text c.Hello = codes "hello"
 connection_name_text c.Auth = codes "auth"
-connection_name_text c.Info = codes "info"
 connection_name_text c.Reset = codes "reset"
+
+abbrev pub server_name_text : ServerName → List ℕ
+server_name_text s.Info = codes "info"
+server_name_text s.Save = codes "save"
+server_name_text s.BgSave = codes "bgsave"
+server_name_text s.LastSave = codes "lastsave"
+server_name_text s.Shutdown = codes "shutdown"
+server_name_text s.Debug = codes "debug"
 
 abbrev pub program_name_text : ProgramName → List ℕ
 program_name_text p.Eval = codes "eval"
@@ -99,6 +108,7 @@ name_text (Key name) = key_name_text name
 name_text (Keys name) = keys_name_text name
 name_text (Walk name) = walk_name_text name
 name_text (Connection name) = connection_name_text name
+name_text (Server name) = server_name_text name
 name_text (Program name) = program_name_text name
 name_text (A_parent name) = parent_text name
 
@@ -193,8 +203,15 @@ connection_arity c.Quit = AtLeast 0
 connection_arity c.Select = Exactly 1
 connection_arity c.Hello = AtLeast 0
 connection_arity c.Auth = AtLeast 1
-connection_arity c.Info = AtLeast 0
 connection_arity c.Reset = Exactly 0
+
+abbrev pub server_arity : ServerName → Arity
+server_arity s.Info = AtLeast 0
+server_arity s.Save = Exactly 0
+server_arity s.BgSave = AtLeast 0
+server_arity s.LastSave = Exactly 0
+server_arity s.Shutdown = AtLeast 0
+server_arity s.Debug = AtLeast 1
 
 abbrev pub parent_arity : Parent → Arity
 parent_arity Command = AtLeast 0
@@ -205,6 +222,7 @@ arity_of (Key name) = key_arity name
 arity_of (Keys name) = keys_arity name
 arity_of (Walk name) = walk_arity name
 arity_of (Connection name) = connection_arity name
+arity_of (Server name) = server_arity name
 arity_of (Program name) = AtLeast 2
 arity_of (A_parent name) = parent_arity name
 
@@ -237,7 +255,8 @@ all_names =
     ∷ k.Type ∷ k.Ttl ∷ k.Pttl ∷ k.ExpireTime ∷ k.PexpireTime ∷ k.DelIfEq ∷ k.Persist ∷ [])
     ++ map Keys (ks.Mget ∷ ks.Mset ∷ ks.Del ∷ ks.Unlink ∷ ks.Exists ∷ ks.Touch ∷ [])
     ++ map Walk (w.DbSize ∷ w.Scan ∷ w.Keys ∷ w.RandomKey ∷ w.FlushAll ∷ w.FlushDb ∷ [])
-    ++ map Connection (c.Ping ∷ c.Echo ∷ c.Quit ∷ c.Select ∷ c.Hello ∷ c.Auth ∷ c.Info ∷ c.Reset ∷ [])
+    ++ map Connection (c.Ping ∷ c.Echo ∷ c.Quit ∷ c.Select ∷ c.Hello ∷ c.Auth ∷ c.Reset ∷ [])
+    ++ map Server (s.Info ∷ s.Save ∷ s.BgSave ∷ s.LastSave ∷ s.Shutdown ∷ s.Debug ∷ [])
     ++ map Program (p.Eval ∷ p.EvalSha ∷ [])
     ++ map A_parent (Client ∷ Command ∷ Config ∷ Script ∷ [])
 

@@ -12,6 +12,8 @@ use Rattle.redis_commands.specs.declared.name.WalkName.{WalkName}
 use Rattle.redis_commands.specs.declared.name.WalkName.TheVariants as w
 use Rattle.redis_commands.specs.declared.name.ConnectionName.{ConnectionName}
 use Rattle.redis_commands.specs.declared.name.ConnectionName.TheVariants as c
+use Rattle.redis_commands.specs.declared.name.ServerName.{ServerName}
+use Rattle.redis_commands.specs.declared.name.ServerName.TheVariants as sv
 use Rattle.redis_commands.specs.declared.name.ProgramName.{ProgramName}
 use Rattle.redis_commands.specs.declared.name.ProgramName.TheVariants as p
 use Rattle.redis_commands.specs.declared.name.Parent.{Parent}
@@ -26,19 +28,21 @@ use Rattle.redis_commands.specs.declared.command.TimeUnit.{TimeUnit}
 use Rattle.redis_commands.specs.declared.command.TimeUnit.TheVariants.{Seconds, Millis}
 use Rattle.redis_commands.specs.declared.command.TimeForm.{TimeForm}
 use Rattle.redis_commands.specs.declared.command.TimeForm.TheVariants as form
+use Rattle.redis_commands.specs.declared.command.LastSave.TheVariants as last
 use Rattle.redis_commands.specs.Numbers.{integer_of, natural_of, fits_64, fits_32}
 use Rattle.redis_commands.specs.Words.{word, is, given, number, number_from_0}
 use Rattle.redis_commands.specs.Deadlines.{deadline, deadline_above_0, rule_of}
 use Rattle.redis_commands.specs.Options.{set_options, lifetime, scan_options, short_name, client_name, is_default, hello_options}
 use Rattle.redis_commands.specs.Options.Term.{Same, Endless}
-use Rattle.redis_commands.specs.Commands.{Asked, Act, WalkAsked, ConnectionAsked, ProgramAsked, Fault}
-use Rattle.redis_commands.specs.Commands.Asked.{OnKey, OnKeys, SetEach, Walk, Connection, Program}
+use Rattle.redis_commands.specs.Commands.{Asked, Act, WalkAsked, ConnectionAsked, ServerAsked, ProgramAsked, Fault}
+use Rattle.redis_commands.specs.Commands.Asked.{OnKey, OnKeys, SetEach, Walk, Connection, Server, Program}
 use Rattle.redis_commands.specs.Commands.Act.{Get, Set, SetIfAbsent, GetAndSet, GetAndDelete, Length, TypeName, GetAndExpire, Expire, Persist, TimeLeft, Add, Append, GetRange, SetRange, DeleteIfEqual}
 use Rattle.redis_commands.specs.Commands.WalkAsked.{CountAll, Scan, Keys, RandomKey, RemoveAll}
-use Rattle.redis_commands.specs.Commands.ConnectionAsked.{Ping, Echo, Quit, Select, Hello, Auth, ClientId, ClientName, SetClientName, SetClientInfo, ClientList, Commands, CommandCount, CommandDocs, Config, Info, Reset}
+use Rattle.redis_commands.specs.Commands.ConnectionAsked.{Ping, Echo, Quit, Select, Hello, Auth, ClientId, ClientName, SetClientName, SetClientInfo, ClientList, Commands, CommandCount, CommandDocs, Config, Reset}
+use Rattle.redis_commands.specs.Commands.ServerAsked.{Info, Save, SaveLater, LastSaved, Shutdown}
 use Rattle.redis_commands.specs.Commands.ProgramAsked.{Load, Exists, Call, Eval}
 use Rattle.redis_commands.specs.Commands.Condition.{Always, IfEqual}
-use Rattle.redis_commands.specs.Commands.Fault.{UnknownCommand, UnknownSub, WrongCount, WrongSubCount, Syntax, DecrementOverflow, OffsetOutOfRange, LongKey, LongValue, BadCursor, BadIndex, WideIndex, BadVersion, NoProtocol, NoPassword, WrongPassword, NegativeKeys, TooManyKeys, ScriptShape, NoScript, WebRequest}
+use Rattle.redis_commands.specs.Commands.Fault.{UnknownCommand, UnknownSub, WrongCount, WrongSubCount, Syntax, DecrementOverflow, OffsetOutOfRange, LongKey, LongValue, BadCursor, BadIndex, WideIndex, BadVersion, NoProtocol, NoPassword, WrongPassword, NegativeKeys, TooManyKeys, ScriptShape, NoScript, NoDebug, WebRequest}
 
 -- ---- commands of one key
 
@@ -217,8 +221,35 @@ connection_of c.Quit args = Ok Quit
 connection_of c.Select args = given (number (word 0 args)) select
 connection_of c.Hello args = hello args
 connection_of c.Auth args = auth args
-connection_of c.Info args = Ok Info
 connection_of c.Reset args = Ok Reset
+
+-- ---- commands of the server
+
+-- BGSAVE: alone, or with SCHEDULE
+abbrev pub save_later : List (List ℕ) → Result ServerAsked Fault
+save_later [] = Ok SaveLater
+save_later (option ∷ []) = if is (codes "schedule") option then Ok SaveLater else Err Syntax
+save_later options = Err Syntax
+
+-- the option of SHUTDOWN
+abbrev pub last_save : List ℕ → Result ServerAsked Fault
+last_save option =
+    if is (codes "save") option then Ok (Shutdown last.Always)
+    else (if is (codes "nosave") option then Ok (Shutdown last.Never) else Err Syntax)
+
+-- SHUTDOWN: alone, or with SAVE or NOSAVE
+abbrev pub shutdown : List (List ℕ) → Result ServerAsked Fault
+shutdown [] = Ok (Shutdown last.IfKept)
+shutdown (option ∷ []) = last_save option
+shutdown options = Err Syntax
+
+abbrev pub server_of : ServerName → List (List ℕ) → Result ServerAsked Fault
+server_of sv.Info args = Ok (Info args)
+server_of sv.Save args = Ok Save
+server_of sv.BgSave args = save_later args
+server_of sv.LastSave args = Ok LastSaved
+server_of sv.Shutdown args = shutdown args
+server_of sv.Debug args = Err NoDebug
 
 -- ---- commands of programs
 
@@ -273,6 +304,7 @@ asked_as now (n.Key name) args = asked_of_key now name args
 asked_as now (n.Keys name) args = asked_of_keys name args
 asked_as now (n.Walk name) args = given (walk_of name args) (λ walk. Ok (Walk walk))
 asked_as now (n.Connection name) args = given (connection_of name args) (λ connection. Ok (Connection connection))
+asked_as now (n.Server name) args = given (server_of name args) (λ server. Ok (Server server))
 asked_as now (n.Program name) args = given (program_of name args) (λ program. Ok (Program program))
 asked_as now (n.Parent parent) args = asked_of_parent parent args
 

@@ -3,7 +3,7 @@ use Rattle.std.specs.Prelude.{ℕ, Bool, ◌+◌, ◌-◌, ◌||◌, List, [], �
 use Rattle.std.specs.List.{list_all}
 use Rattle.redis_commands.specs.Names.{name_text, sub_word, parent_of, parent_text, parent_capitals}
 use Rattle.redis_commands.specs.Commands.{Fault}
-use Rattle.redis_commands.specs.Commands.Fault.{UnknownCommand, UnknownSub, WrongCount, WrongSubCount, Syntax, NotAnInteger, DecrementOverflow, OffsetOutOfRange, LongKey, LongValue, BadExpire, ExpireOption, NxWithOthers, GtWithLt, BadCursor, BadIndex, WideIndex, BadVersion, NoProtocol, HelloOption, BadClientName, LongClientName, NoPassword, WrongPassword, NegativeKeys, TooManyKeys, ScriptShape, NoScript, WebRequest}
+use Rattle.redis_commands.specs.Commands.Fault.{UnknownCommand, UnknownSub, WrongCount, WrongSubCount, Syntax, NotAnInteger, DecrementOverflow, OffsetOutOfRange, LongKey, LongValue, BadExpire, ExpireOption, NxWithOthers, GtWithLt, BadCursor, BadIndex, WideIndex, BadVersion, NoProtocol, HelloOption, BadClientName, LongClientName, NoPassword, WrongPassword, NegativeKeys, TooManyKeys, ScriptShape, NoScript, NoDebug, WebRequest}
 
 -- up to the first byte 0
 abbrev pub until_0 : List ℕ → List ℕ
@@ -70,6 +70,7 @@ fault_text NegativeKeys = codes "ERR Number of keys can't be negative"
 fault_text TooManyKeys = codes "ERR Number of keys can't be greater than number of args"
 fault_text ScriptShape = codes "ERR not served: a script is called with one key"
 fault_text NoScript = codes "NOSCRIPT No matching script. Please use EVAL."
+fault_text NoDebug = codes "ERR DEBUG command not allowed."
 fault_text WebRequest = []
 
 -- the text shows nothing of the words

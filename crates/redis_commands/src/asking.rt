@@ -1,16 +1,18 @@
 //! Words, and what they ask for.
 ghost use Rattle.std.specs.Prelude.{◌≡◌, ◌≤◌, true, All, IfOk, length, if◌then◌else◌};
 ghost use Rattle.redis_commands.specs.Names.{walk_arity, connection_arity, sub_arity, arity_of, is_allowed};
-ghost use Rattle.redis_commands.specs.Commands.{answer_by, fault_by, asked_by, walk_by, connection_by, program_by, text, texts};
+ghost use Rattle.redis_commands.specs.Commands.{answer_by, fault_by, asked_by, walk_by, connection_by, server_by, program_by, text, texts};
 ghost use Rattle.redis_commands.specs.Commands.Fault.{UnknownCommand, WebRequest};
 ghost use Rattle.redis_commands.specs.Reading.{read_by, natural_by, call_by};
-ghost use Rattle.redis_commands.specs.Table.{cursor_of, flush, scan, walk_of, hello_as, hello, auth, select, connection_of, has_long_value, call_with, program_of, asked_of_sub, asked_of_parent, asked_as, asked_of, is_web};
+ghost use Rattle.redis_commands.specs.Table.{cursor_of, flush, scan, walk_of, hello_as, hello, auth, select, connection_of, save_later, last_save, shutdown, server_of, has_long_value, call_with, program_of, asked_of_sub, asked_of_parent, asked_as, asked_of, is_web};
 ghost use Rattle.redis_commands.specs.Limits.{IsWithinLimits, IsConnectionWithin, IsProgramWithin, IsKey, IsValue};
 
-use crate::command::{Command, ConnectionCommand, ProgramCommand, WalkCommand};
+use crate::command::{
+    Command, ConnectionCommand, LastSave, ProgramCommand, ServerCommand, WalkCommand,
+};
 use crate::fault::CommandFault;
 use crate::keyed::{Answer, key_command, keys_command, word};
-use crate::name::{ConnectionName, Name, Parent, ProgramName, Sub, WalkName, is};
+use crate::name::{ConnectionName, Name, Parent, ProgramName, ServerName, Sub, WalkName, is};
 use crate::number::{integer, natural};
 use crate::options::{HelloOptions, ScanOptions, client_name, is_default, number, short_name};
 use bpf_model::limits::{KEY_BYTES, VALUE_BYTES};
@@ -159,8 +161,70 @@ fn connection_command<'a>(
         ConnectionName::Select => select(number(word(args, 0))?),
         ConnectionName::Hello => hello(args),
         ConnectionName::Auth => auth(args),
-        ConnectionName::Info => Ok(ConnectionCommand::Info),
         ConnectionName::Reset => Ok(ConnectionCommand::Reset),
+    }
+}
+
+/// Returns what the arguments of `BGSAVE` ask for.
+fn save_later<'a>(args: &'a [&'a [u8]]) -> Result<ServerCommand<'a>, CommandFault<'a>>
+    ensures { read_by server_by result ≡ save_later (texts args.now) }
+{
+    match args {
+        [] => Ok(ServerCommand::SaveLater),
+        [option] => {
+            if is("schedule", option) {
+                Ok(ServerCommand::SaveLater)
+            } else {
+                Err(CommandFault::Syntax)
+            }
+        }
+        _ => Err(CommandFault::Syntax),
+    }
+}
+
+/// Returns what the option of `SHUTDOWN` asks for.
+fn last_save<'a>(option: &[u8]) -> Result<ServerCommand<'a>, CommandFault<'a>>
+    ensures { read_by server_by result ≡ last_save option.now }
+{
+    if is("save", option) {
+        let save = LastSave::Always;
+        Ok(ServerCommand::Shutdown { save })
+    } else if is("nosave", option) {
+        let save = LastSave::Never;
+        Ok(ServerCommand::Shutdown { save })
+    } else {
+        Err(CommandFault::Syntax)
+    }
+}
+
+/// Returns what the arguments of `SHUTDOWN` ask for.
+fn shutdown<'a>(args: &'a [&'a [u8]]) -> Result<ServerCommand<'a>, CommandFault<'a>>
+    ensures { read_by server_by result ≡ shutdown (texts args.now) }
+{
+    match args {
+        [] => {
+            let save = LastSave::IfKept;
+            Ok(ServerCommand::Shutdown { save })
+        }
+        [option] => last_save(option),
+        _ => Err(CommandFault::Syntax),
+    }
+}
+
+/// Returns what the arguments of a command of the server ask for.
+fn server_command<'a>(
+    name: ServerName,
+    args: &'a [&'a [u8]],
+) -> Result<ServerCommand<'a>, CommandFault<'a>>
+    ensures { read_by server_by result ≡ server_of name (texts args.now) }
+{
+    match name {
+        ServerName::Info => Ok(ServerCommand::Info { sections: args }),
+        ServerName::Save => Ok(ServerCommand::Save),
+        ServerName::BgSave => save_later(args),
+        ServerName::LastSave => Ok(ServerCommand::LastSaved),
+        ServerName::Shutdown => shutdown(args),
+        ServerName::Debug => Err(CommandFault::NoDebug),
     }
 }
 
@@ -294,6 +358,7 @@ fn command_as<'a>(name: Name, now: u64, args: &'a [&'a [u8]]) -> Answer<'a>
         Name::Keys(name) => keys_command(name, args),
         Name::Walk(name) => Ok(Command::Walk(walk_command(name, args)?)),
         Name::Connection(name) => Ok(Command::Connection(connection_command(name, args)?)),
+        Name::Server(name) => Ok(Command::Server(server_command(name, args)?)),
         Name::Program(name) => Ok(Command::Program(program_command(name, args)?)),
         Name::Parent(parent) => parent_command(parent, args),
     }

@@ -157,7 +157,7 @@ pub enum WalkCommand<'a> {
     RemoveAll,
 }
 
-/// What is asked of the connection or the server.
+/// What is asked of the connection.
 #[derive(Clone, Copy, Debug, PartialEq, Eq)]
 pub enum ConnectionCommand<'a> {
     /// `PING`, with the text that is to come back, if there is one.
@@ -190,10 +190,34 @@ pub enum ConnectionCommand<'a> {
     CommandDocs,
     /// `CONFIG GET`
     Config { parameters: &'a [&'a [u8]] },
-    /// `INFO`
-    Info,
     /// `RESET`
     Reset,
+}
+
+/// Whether a server that is to end saves its map before.
+#[derive(Clone, Copy, Debug, PartialEq, Eq)]
+pub enum LastSave {
+    /// If it keeps its map in a file.
+    IfKept,
+    /// `SAVE`
+    Always,
+    /// `NOSAVE`
+    Never,
+}
+
+/// What is asked of the server.
+#[derive(Clone, Copy, Debug, PartialEq, Eq)]
+pub enum ServerCommand<'a> {
+    /// `INFO`, about these sections, or about all if there is none.
+    Info { sections: &'a [&'a [u8]] },
+    /// `SAVE`
+    Save,
+    /// `BGSAVE`
+    SaveLater,
+    /// `LASTSAVE`
+    LastSaved,
+    /// `SHUTDOWN`
+    Shutdown { save: LastSave },
 }
 
 /// What is asked of programs.
@@ -231,5 +255,6 @@ pub enum Command<'a> {
     SetEach { words: &'a [&'a [u8]] },
     Walk(WalkCommand<'a>),
     Connection(ConnectionCommand<'a>),
+    Server(ServerCommand<'a>),
     Program(ProgramCommand<'a>),
 }

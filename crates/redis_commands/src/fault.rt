@@ -72,6 +72,8 @@ pub enum CommandFault<'a> {
     ScriptShape,
     /// `EVALSHA` with a digest that has not 40 bytes.
     NoScript,
+    /// `DEBUG`, which is not served.
+    NoDebug,
     /// The name is `POST` or `HOST:`, as a browser sends it. Redis ends such a connection without a reply.
     WebRequest,
 }
@@ -126,6 +128,7 @@ impl CommandFault<'_> {
             CommandFault::TooManyKeys => "ERR Number of keys can't be greater than number of args",
             CommandFault::ScriptShape => "ERR not served: a script is called with one key",
             CommandFault::NoScript => "NOSCRIPT No matching script. Please use EVAL.",
+            CommandFault::NoDebug => "ERR DEBUG command not allowed.",
             _ => "",
         }
     }

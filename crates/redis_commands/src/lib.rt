@@ -16,14 +16,12 @@ mod keyed;
 pub mod name;
 pub mod number;
 mod options;
-#[cfg(test)]
-mod tests;
 mod text;
 
 pub use asking::command_of;
 pub use command::{
-    Command, Condition, ConnectionCommand, ExpireRule, KeyAct, KeysAct, Lifetime, NAME_BYTES,
-    ProgramCommand, TimeForm, TimeUnit, WalkCommand,
+    Command, Condition, ConnectionCommand, ExpireRule, KeyAct, KeysAct, LastSave, Lifetime,
+    NAME_BYTES, ProgramCommand, ServerCommand, TimeForm, TimeUnit, WalkCommand,
 };
 pub use fault::CommandFault;
 pub use glob::matches;

@@ -1,7 +1,7 @@
 //! The names of commands, and how many arguments each command takes.
 ghost use Rattle.std.specs.Prelude.{◌≡◌};
 ghost use Rattle.std.specs.Str.{str_eq_ignore_ascii_case};
-ghost use Rattle.redis_commands.specs.Names.{arity_of, key_arity, walk_arity, connection_arity, parent_arity, sub_arity, is_allowed, name_text, sub_word, parent_text, parent_capitals, key_name_text, keys_name_text, walk_name_text, connection_name_text, program_name_text, parent_of, subs_of, sub_named, first_sub, first_named, named, names_of_length};
+ghost use Rattle.redis_commands.specs.Names.{arity_of, key_arity, walk_arity, connection_arity, server_arity, parent_arity, sub_arity, is_allowed, name_text, sub_word, parent_text, parent_capitals, key_name_text, keys_name_text, walk_name_text, connection_name_text, server_name_text, program_name_text, parent_of, subs_of, sub_named, first_sub, first_named, named, names_of_length};
 
 /// Whether the word is this name, in any case.
 pub(crate) fn is(name: &str, word: &[u8]) -> bool
@@ -38,6 +38,7 @@ pub enum Name {
     Keys(KeysName),
     Walk(WalkName),
     Connection(ConnectionName),
+    Server(ServerName),
     Program(ProgramName),
     /// A command whose first argument names what it does.
     Parent(Parent),
@@ -107,8 +108,18 @@ pub enum ConnectionName {
     Select,
     Hello,
     Auth,
-    Info,
     Reset,
+}
+
+/// The commands of the server.
+#[derive(Clone, Copy, Debug, PartialEq, Eq)]
+pub enum ServerName {
+    Info,
+    Save,
+    BgSave,
+    LastSave,
+    Shutdown,
+    Debug,
 }
 
 /// The commands that run programs.
@@ -257,7 +268,6 @@ impl ConnectionName {
             ConnectionName::Select => "select",
             ConnectionName::Hello => "hello",
             ConnectionName::Auth => "auth",
-            ConnectionName::Info => "info",
             ConnectionName::Reset => "reset",
         }
     }
@@ -270,9 +280,32 @@ impl ConnectionName {
             ConnectionName::Echo | ConnectionName::Select => Arity::Exactly(1),
             ConnectionName::Auth => Arity::AtLeast(1),
             ConnectionName::Reset => Arity::Exactly(0),
-            ConnectionName::Quit | ConnectionName::Hello | ConnectionName::Info => Arity::AtLeast(
-                0,
-            ),
+            ConnectionName::Quit | ConnectionName::Hello => Arity::AtLeast(0),
+        }
+    }
+}
+
+impl ServerName {
+    fn text(self) -> &'static str
+        ensures { result.now ≡ server_name_text self }
+    {
+        match self {
+            ServerName::Info => "info",
+            ServerName::Save => "save",
+            ServerName::BgSave => "bgsave",
+            ServerName::LastSave => "lastsave",
+            ServerName::Shutdown => "shutdown",
+            ServerName::Debug => "debug",
+        }
+    }
+
+    fn arity(self) -> Arity
+        ensures { result ≡ server_arity self }
+    {
+        match self {
+            ServerName::Save | ServerName::LastSave => Arity::Exactly(0),
+            ServerName::Info | ServerName::BgSave | ServerName::Shutdown => Arity::AtLeast(0),
+            ServerName::Debug => Arity::AtLeast(1),
         }
     }
 }
@@ -411,6 +444,7 @@ impl Name {
             Name::Keys(name) => name.text(),
             Name::Walk(name) => name.text(),
             Name::Connection(name) => name.text(),
+            Name::Server(name) => name.text(),
             Name::Program(name) => name.text(),
             Name::Parent(name) => name.text(),
         }
@@ -426,6 +460,7 @@ impl Name {
             Name::Keys(_) => Arity::AtLeast(1),
             Name::Walk(name) => name.arity(),
             Name::Connection(name) => name.arity(),
+            Name::Server(name) => name.arity(),
             Name::Program(_) => Arity::AtLeast(2),
             Name::Parent(name) => name.arity(),
         }
@@ -474,7 +509,7 @@ static THREE: [Name; 4] = [
 ];
 
 /// The names of four letters.
-static FOUR: [Name; 14] = [
+static FOUR: [Name; 15] = [
     Name::Key(KeyName::Incr),
     Name::Key(KeyName::Decr),
     Name::Key(KeyName::Type),
@@ -487,22 +522,24 @@ static FOUR: [Name; 14] = [
     Name::Connection(ConnectionName::Echo),
     Name::Connection(ConnectionName::Quit),
     Name::Connection(ConnectionName::Auth),
-    Name::Connection(ConnectionName::Info),
+    Name::Server(ServerName::Info),
+    Name::Server(ServerName::Save),
     Name::Program(ProgramName::Eval),
 ];
 
 /// The names of five letters.
-static FIVE: [Name; 6] = [
+static FIVE: [Name; 7] = [
     Name::Key(KeyName::SetNx),
     Name::Key(KeyName::SetEx),
     Name::Key(KeyName::GetEx),
     Name::Keys(KeysName::Touch),
     Name::Connection(ConnectionName::Hello),
     Name::Connection(ConnectionName::Reset),
+    Name::Server(ServerName::Debug),
 ];
 
 /// The names of six letters.
-static SIX: [Name; 16] = [
+static SIX: [Name; 17] = [
     Name::Key(KeyName::IncrBy),
     Name::Key(KeyName::DecrBy),
     Name::Key(KeyName::GetSet),
@@ -516,6 +553,7 @@ static SIX: [Name; 16] = [
     Name::Keys(KeysName::Exists),
     Name::Walk(WalkName::DbSize),
     Name::Connection(ConnectionName::Select),
+    Name::Server(ServerName::BgSave),
     Name::Parent(Parent::Client),
     Name::Parent(Parent::Config),
     Name::Parent(Parent::Script),
@@ -532,11 +570,13 @@ static SEVEN: [Name; 6] = [
 ];
 
 /// The names of eight letters.
-static EIGHT: [Name; 4] = [
+static EIGHT: [Name; 6] = [
     Name::Key(KeyName::GetRange),
     Name::Key(KeyName::SetRange),
     Name::Key(KeyName::ExpireAt),
     Name::Walk(WalkName::FlushAll),
+    Name::Server(ServerName::LastSave),
+    Name::Server(ServerName::Shutdown),
 ];
 
 /// The names of nine letters.

@@ -4,13 +4,14 @@ use Rattle.bin_stripes.specs.Passes.{PassState}
 use Rattle.resp.specs.Replies.{error_bytes}
 use Rattle.redis_commands.specs.Commands.{Asked, Fault}
 use Rattle.redis_commands.specs.Commands.Fault.{WebRequest}
-use Rattle.redis_commands.specs.Commands.Asked.{OnKey, OnKeys, SetEach, Walk, Connection, Program}
+use Rattle.redis_commands.specs.Commands.Asked.{OnKey, OnKeys, SetEach, Walk, Connection, Server, Program}
 use Rattle.redis_commands.specs.Table.{asked_of}
 use Rattle.redis_commands.specs.Texts.{fault_text}
 use Rattle.redis_service.specs.States.{TalkState}
 use Rattle.redis_service.specs.Answers.{AnswersKey, AnswersKeys, AnswersSetEach, pairs}
 use Rattle.redis_service.specs.Walks.{AnswersWalk}
 use Rattle.redis_service.specs.Connections.{AnswersConnection}
+use Rattle.redis_service.specs.Saving.{AnswersServer}
 use Rattle.redis_service.specs.Programs.{AnswersProgram}
 
 -- the talk stays as it is
@@ -25,6 +26,7 @@ module _ (now : ℕ) where
   AnswersCommand talk old (OnKeys keys act) written next new = AnswersKeys now old keys act written new × Same talk next
   AnswersCommand talk old (SetEach words) written next new = AnswersSetEach now old (pairs words) written new × Same talk next
   AnswersCommand talk old (Connection asked) written next new = AnswersConnection talk old asked written next new
+  AnswersCommand talk old (Server asked) written next new = AnswersServer talk old asked written next new
   AnswersCommand talk old (Walk asked) written next new = AnswersWalk now old asked written new × Same talk next
   AnswersCommand talk old (Program asked) written next new = AnswersProgram now old asked written new × Same talk next
 

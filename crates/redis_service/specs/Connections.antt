@@ -1,11 +1,10 @@
--- Commands of the connection and of the server.
+-- Commands of the connection.
 use Rattle.std.specs.Prelude.{◌≡◌, ◌⊎◌, ℕ, List, [], ◌∷◌, ◌++◌, Option, Some, None, codes, true}
 use Rattle.bin_stripes.specs.Passes.{PassState}
 use Rattle.resp.specs.Replies.{simple_bytes, value_bytes, nothing_bytes, array_head}
 use Rattle.redis_commands.specs.Commands.{ConnectionAsked}
-use Rattle.redis_commands.specs.Commands.ConnectionAsked.{Ping, Echo, Quit, Select, Hello, Auth, ClientId, ClientName, SetClientName, SetClientInfo, ClientList, Commands, CommandCount, CommandDocs, Config, Info, Reset}
-use Rattle.key_walks.specs.Walks.{CountsAll}
-use Rattle.redis_service.specs.Server.{client_line, info_text, config_bytes}
+use Rattle.redis_commands.specs.Commands.ConnectionAsked.{Ping, Echo, Quit, Select, Hello, Auth, ClientId, ClientName, SetClientName, SetClientInfo, ClientList, Commands, CommandCount, CommandDocs, Config, Reset}
+use Rattle.redis_service.specs.Server.{client_line, config_bytes}
 use Rattle.redis_service.specs.States.{TalkState, renamed}
 use Rattle.redis_service.specs.Lines.{no_memory_line}
 use Rattle.redis_service.specs.Texts.{ok_line, count_line}
@@ -17,10 +16,6 @@ Says talk old text written next new = (written ≡ text) × (next ≡ talk) × (
 -- the text, or that memory for it was refused
 abbrev pub SaysIfRoom : List ℕ → List ℕ → Type 0
 SaysIfRoom text written = (written ≡ text) ⊎ (written ≡ no_memory_line)
-
--- INFO counts the keys first
-abbrev pub AnswersInfo : PassState → List ℕ → PassState → Type 0
-AnswersInfo old written new = (count : ℕ) × CountsAll old count new × SaysIfRoom (value_bytes (info_text count)) written
 
 -- the client has this name now; or memory to keep it was refused
 abbrev pub Renames : TalkState → PassState → List ℕ → List ℕ → List ℕ → TalkState → PassState → Type 0
@@ -68,4 +63,3 @@ AnswersConnection talk old Reset written next new =
 AnswersConnection talk old ClientList written next new =
     SaysIfRoom (value_bytes (client_line talk.number talk.name)) written × (next ≡ talk) × (new ≡ old)
 AnswersConnection talk old (Config words) written next new = Says talk old (config_bytes words) written next new
-AnswersConnection talk old Info written next new = AnswersInfo old written new × (next ≡ talk)

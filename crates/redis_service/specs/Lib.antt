@@ -9,6 +9,8 @@ pub mod Planned
 pub mod States
 pub mod Answers
 pub mod Server
+pub mod Info
+pub mod Saving
 pub mod Connections
 pub mod Walks
 pub mod Walked

@@ -14,17 +14,6 @@ client_line number name =
     joined (codes "id=" ∷ decimal number ∷ codes " addr=?:0 laddr=?:0 fd=0 name=" ∷ name
     ∷ codes " age=0 idle=0 flags=N db=0 sub=0 psub=0 ssub=0 multi=-1 cmd=client|list user=default redir=-1 resp=2\n" ∷ [])
 
--- INFO. What isn't counted is 0
-abbrev pub info_head : List ℕ
-info_head = codes "# Server\r\nredis_version:7.0.15\r\nredis_mode:standalone\r\n\r\n# Clients\r\nconnected_clients:1\r\nblocked_clients:0\r\n\r\n# Memory\r\nused_memory:0\r\nused_memory_human:0B\r\nmaxmemory:0\r\nmaxmemory_policy:noeviction\r\n\r\n# Persistence\r\nloading:0\r\n\r\n# Stats\r\ntotal_connections_received:0\r\ntotal_commands_processed:0\r\ninstantaneous_ops_per_sec:0\r\n\r\n# Replication\r\nrole:master\r\nconnected_slaves:0\r\n\r\n# Keyspace\r\ndb0:keys="
-
-abbrev pub info_tail : List ℕ
-info_tail = codes ",expires=0,avg_ttl=0\r\n"
-
--- INFO, about a map with this many keys
-abbrev pub info_text : ℕ → List ℕ
-info_text count = joined (info_head ∷ decimal count ∷ info_tail ∷ [])
-
 -- a word is this one, in any case
 abbrev pub is : List ℕ → List ℕ → Bool
 is name word = str_eq_ignore_ascii_case name word

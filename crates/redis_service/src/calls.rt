@@ -10,6 +10,7 @@ use crate::sweeper::Sweeper;
 use atomic_methods::{Call, ReplyKind};
 use bin_stripes::{Pass, StripedMap};
 use bpf_model::{Key, NoMemory, Value};
+use server_state::WorkerCounts;
 use std::sync::Wait;
 use timed_bins::{DeadlineChange, TimedReply, Timing};
 
@@ -20,6 +21,8 @@ pub struct MapAt<'a> {
     pub map: &'a StripedMap,
     /// The time.
     pub time: u64,
+    /// Where reads are counted.
+    pub counts: &'a WorkerCounts,
 }
 
 /// What came of a call.
@@ -77,6 +80,15 @@ pub fn text_of(was: bool, found: &Value) -> &[u8]
     if was { found.as_slice() } else { &[] }
 }
 
+/// Counts a read, and returns whether there is a value.
+fn counted(counts: &WorkerCounts, kind: ReplyKind) -> bool
+    ensures { (bytes : List ℕ) → value_in (reply_by kind bytes) ≡ where_true result bytes }
+{
+    let was = has_value(kind);
+    counts.count_read(was);
+    was
+}
+
 /// Gets the key's value into `found`, and returns whether there is one.
 #[tactic(auto, using(crate::proofs::CallLemmas::gets_are_not_refused))]
 pub fn get<H: Wait>(rt: &H, at: &MapAt<'_>, pass: &mut Pass, key: &Key, found: &mut Value) -> bool
@@ -94,7 +106,7 @@ pub fn get<H: Wait>(rt: &H, at: &MapAt<'_>, pass: &mut Pass, key: &Key, found: &
         DeadlineChange::Keep,
         found,
     ) {
-        Ok(timed) => has_value(timed.kind),
+        Ok(timed) => counted(at.counts, timed.kind),
         Err(NoMemory) => unreachable!(),
     }
 }

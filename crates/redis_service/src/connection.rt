@@ -1,5 +1,5 @@
-//! Commands of the connection and of the server.
-ghost use Rattle.std.specs.Prelude.{◌≡◌, ◌≢◌, ℕ, List};
+//! Commands of the connection.
+ghost use Rattle.std.specs.Prelude.{◌≡◌, ℕ, List};
 ghost use Rattle.bin_stripes.specs.Passes.{PassState};
 ghost use Rattle.devices.specs.Devices.{CanWrite};
 ghost use Rattle.resp.specs.Replies.{value_bytes};
@@ -11,7 +11,7 @@ ghost use Rattle.redis_service.specs.Server as server;
 ghost use Rattle.redis_service.specs.Texts.{ok_line};
 
 use crate::reply::Replied;
-use crate::server::{client_line, info_text, put_settings};
+use crate::server::{client_line, put_settings};
 use crate::talk::RedisTalk;
 use bpf_model::NoMemory;
 use devices::{Failed, Sink};
@@ -127,27 +127,14 @@ fn put_client<W: Sink>(alloc: Global, talk: &RedisTalk, sink: &mut W) -> Result<
     }
 }
 
-/// Writes what `INFO` says of a map with this many keys.
-pub fn put_info<W: Sink>(alloc: Global, count: u64, sink: &mut W) -> Result<(), Failed>
-    requires { CanWrite (W.state sink.old) }
-    ensures { (written : List ℕ) × Sends result (W.state sink.old) (W.state sink.new) written
-        × SaysIfRoom (value_bytes (server.info_text count)) written }
-{
-    match info_text(alloc, count) {
-        Ok(text) => put_value(sink, &text),
-        Err(NoMemory) => Replied::NoMemory.send(&[], sink),
-    }
-}
-
-/// Answers a command of the connection that needs no map, which is each but `INFO`.
+/// Answers a command of the connection.
 pub fn answer_connection<W: Sink>(
     alloc: Global,
     talk: &mut RedisTalk,
     command: &ConnectionCommand<'_>,
     sink: &mut W,
 ) -> Result<(), Failed>
-    requires sink { CanWrite (W.state sink.old) }
-    requires map { command.now ≢ ConnectionCommand.Info }
+    requires { CanWrite (W.state sink.old) }
     ensures number { talk.new.number ≡ talk.old.number }
     ensures answers { (pass : PassState) → (written : List ℕ) × Sends result (W.state sink.old) (W.state sink.new) written
         × AnswersConnection talk.old pass (connection_by command.now) written talk.new pass }
@@ -178,6 +165,5 @@ pub fn answer_connection<W: Sink>(
         }
         ConnectionCommand::ClientList => put_client(alloc, talk, sink),
         ConnectionCommand::Config { parameters } => put_settings(parameters, sink),
-        ConnectionCommand::Info => unreachable!(),
     }
 }

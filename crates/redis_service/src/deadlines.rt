@@ -1,6 +1,5 @@
 //! Commands about the deadline of a key.
 ghost use Rattle.std.specs.Prelude.{◌≡◌, ℕ, List};
-ghost use Rattle.timed_bins.specs.Deadlines as timed;
 ghost use Rattle.timed_bins.specs.declared.timing.DeadlineChange.{DeadlineChange as TheChange};
 ghost use Rattle.atomic_methods.specs.Invocations.{Invocation};
 ghost use Rattle.bin_stripes.specs.Passes.{PassState};
@@ -50,20 +49,6 @@ fn rule_of(rule: ExpireRule) -> SetRule
     }
 }
 
-/// Tests whether the rule allowed this deadline for a key that had the one before, or none.
-fn allows(rule: SetRule, before: Option<u64>, at: u64) -> bool
-    ensures { result ≡ timed.allows rule before at }
-{
-    match rule {
-        SetRule::Always => true,
-        SetRule::IfNone => before.is_none(),
-        SetRule::IfSome => before.is_some(),
-        SetRule::IfLater => matches!(before, Some(old) if old < at),
-        SetRule::IfSooner => matches!(before, None) || matches!(before, Some(old) if at < old),
-        SetRule::IfSomeAndSooner => matches!(before, Some(old) if at < old),
-    }
-}
-
 /// Says 1 if there was a value and the rule allowed the deadline, else 0.
 fn say_expired(made: Outcome, rule: SetRule, at: u64) -> Replied
     ensures { (now : ℕ) (change : TheChange) (old new : PassState) (invocation : Invocation) (found : List ℕ)
@@ -71,7 +56,7 @@ fn say_expired(made: Outcome, rule: SetRule, at: u64) -> Replied
         (λ reply before. expire_line rule at (value_in reply) before) (replied_bytes result found) new }
 {
     match made {
-        Ok(timed) => one_if(has_value(timed.kind) && allows(rule, timed.before, at)),
+        Ok(timed) => one_if(has_value(timed.kind) && rule.allows(timed.before, at)),
         Err(NoMemory) => Replied::NoMemory,
     }
 }

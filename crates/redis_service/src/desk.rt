@@ -2,33 +2,38 @@
 ghost use Rattle.std.specs.Prelude.{◌≡◌, ◌≢◌, ℕ, List, true, false, All, OnOk, OnErr, IfOk, IsTrue};
 ghost use Rattle.bin_stripes.specs.Passes.{PassState, ServesSameMap};
 ghost use Rattle.devices.specs.Devices.{CanWrite, TakesBytes, TakesThenFails};
-ghost use Rattle.redis_commands.specs.Commands.{asked_by, act_by, connection_by, fault_by, texts};
+ghost use Rattle.redis_commands.specs.Commands.{asked_by, act_by, server_by, fault_by, texts};
 ghost use Rattle.redis_commands.specs.Commands.Asked.{OnKey};
 ghost use Rattle.redis_commands.specs.Limits.{IsKey, IsWithinLimits};
 ghost use Rattle.redis_service.specs.Answers.{AnswersKey, AnswersKeys};
 ghost use Rattle.redis_service.specs.Commands.{AnswersCommand, AnswersRead, AnswersWords};
-ghost use Rattle.redis_service.specs.Connections.{AnswersConnection, AnswersInfo};
+ghost use Rattle.redis_service.specs.Saving.{AnswersInfo, AnswersServer};
 ghost use Rattle.redis_service.specs.Sending.{Sends};
 ghost use Rattle.redis_service.specs.Sweeps.{Sweeps};
 ghost use Rattle.redis_service.specs.Stops.{Stops, AnswersAll, FailsAt, TellsLast, Taken};
 ghost use Rattle.redis_service.specs.Talks.{AnswersPiece, BreaksPiece};
 
 use crate::calls::MapAt;
-use crate::connection::{answer_connection, put_info};
+use crate::connection::answer_connection;
 use crate::keyed::answer_key;
 use crate::lines::NO_MEMORY_LINE;
+use crate::moment::Moment;
 use crate::programs::{Programs, answer_program};
 use crate::reader::Reader;
+use crate::reply::Replied;
 use crate::room::Room;
+use crate::saving::{later_line, numbers, put_info, save, save_later, save_line, shut_down};
 use crate::several::{count_each, count_of, get_each, put_each, remove_each};
 use crate::talk::RedisTalk;
 use crate::walks::{Ground, answer_walk};
 use bin_stripes::{Pass, StripedMap};
+use bumpalo::Bump;
 use devices::{Failed, Sink, write_all};
 use key_walks::count_all;
-use redis_commands::{Command, CommandFault, ConnectionCommand, KeyAct, KeysAct, command_of};
+use redis_commands::{Command, CommandFault, KeyAct, KeysAct, ServerCommand, command_of};
 use redis_scripts::Scripts;
 use resp::{Next, NextFault, put_error};
+use server_state::{WorkerCounts, WorkerState};
 use std::alloc::Global;
 use std::marker::Model;
 use std::mem;
@@ -52,6 +57,7 @@ pub struct RedisDesk<'a, 's> {
     alloc: Global,
     map: &'a StripedMap,
     scripts: &'a Scripts<'s>,
+    state: WorkerState<'a>,
     room: Room,
     /// The number of commands about the whole map so far.
     walks: u64,
@@ -123,15 +129,28 @@ fn refuse<W: Sink>(
     }
 }
 
+/// Counts the reply, if it says that memory was refused.
+fn count_refused(counts: &WorkerCounts, replied: Replied) {
+    if matches!(replied, Replied::NoMemory) {
+        counts.count_refusal();
+    }
+}
+
 impl<'a, 's> RedisDesk<'a, 's> {
-    /// Makes the room. Takes no memory.
-    pub fn new(alloc: Global, map: &'a StripedMap, scripts: &'a Scripts<'s>) -> RedisDesk<'a, 's>
+    /// Makes the room, of a worker that knows this of its server. Takes no memory.
+    pub fn new(
+        alloc: Global,
+        map: &'a StripedMap,
+        scripts: &'a Scripts<'s>,
+        state: WorkerState<'a>,
+    ) -> RedisDesk<'a, 's>
         ensures { result ≡ map.now }
     {
         RedisDesk {
             alloc,
             map,
             scripts,
+            state,
             room: Room::new(),
             walks: 0,
         }
@@ -145,6 +164,7 @@ impl<'a, 's> RedisDesk<'a, 's> {
         MapAt {
             map: self.map,
             time: now,
+            counts: self.state.counts,
         }
     }
 
@@ -163,8 +183,7 @@ impl<'a, 's> RedisDesk<'a, 's> {
     /// Answers a command about one key.
     fn answer_key<H: Wait, W: Sink>(
         &mut self,
-        rt: &H,
-        now: u64,
+        moment: &Moment<'_, H>,
         pass: &mut Pass,
         key: &[u8],
         act: &KeyAct<'_>,
@@ -178,19 +197,19 @@ impl<'a, 's> RedisDesk<'a, 's> {
         ensures passes { pass.new.view.passes ≡ pass.old.view.passes }
         ensures numbers { pass.new.view.numbers ≡ pass.old.view.numbers }
         ensures answers { (written : List ℕ) × Sends result (W.state sink.old) (W.state sink.new) written
-            × AnswersKey now pass.old key.now (act_by act.now) written pass.new }
+            × AnswersKey moment.now.time pass.old key.now (act_by act.now) written pass.new }
     {
         self.room.key.set_from(key);
-        let at = self.at(now);
-        let replied = answer_key(rt, &at, pass, &mut self.room, act);
+        let at = self.at(moment.time);
+        let replied = answer_key(moment.rt, &at, pass, &mut self.room, act);
+        count_refused(self.state.counts, replied);
         replied.send(self.room.found.as_slice(), sink)
     }
 
     /// Answers a command about several keys.
     fn answer_keys<H: Wait, W: Sink>(
         &mut self,
-        rt: &H,
-        now: u64,
+        moment: &Moment<'_, H>,
         pass: &mut Pass,
         keys: &[&[u8]],
         act: KeysAct,
@@ -204,17 +223,17 @@ impl<'a, 's> RedisDesk<'a, 's> {
         ensures passes { pass.new.view.passes ≡ pass.old.view.passes }
         ensures numbers { pass.new.view.numbers ≡ pass.old.view.numbers }
         ensures answers { (written : List ℕ) × Sends result (W.state sink.old) (W.state sink.new) written
-            × AnswersKeys now pass.old (texts keys.now) act written pass.new }
+            × AnswersKeys moment.now.time pass.old (texts keys.now) act written pass.new }
     {
-        let at = self.at(now);
+        let at = self.at(moment.time);
         match act {
-            KeysAct::GetEach => get_each(rt, &at, pass, &mut self.room, keys, sink),
+            KeysAct::GetEach => get_each(moment.rt, &at, pass, &mut self.room, keys, sink),
             KeysAct::Delete => {
-                let count = remove_each(rt, &at, pass, &mut self.room, keys);
+                let count = remove_each(moment.rt, &at, pass, &mut self.room, keys);
                 count_of(count).send(&[], sink)
             }
             KeysAct::CountPresent => {
-                let count = count_each(rt, &at, pass, &mut self.room, keys);
+                let count = count_each(moment.rt, &at, pass, &mut self.room, keys);
                 count_of(count).send(&[], sink)
             }
         }
@@ -223,8 +242,9 @@ impl<'a, 's> RedisDesk<'a, 's> {
     /// Answers `INFO`.
     fn answer_info<H: Wait, W: Sink>(
         &mut self,
-        rt: &H,
+        moment: &Moment<'_, H>,
         pass: &mut Pass,
+        sections: &[&[u8]],
         sink: &mut W,
     ) -> Result<(), Failed>
         requires map { pass.old.map ≡ self.old }
@@ -234,19 +254,20 @@ impl<'a, 's> RedisDesk<'a, 's> {
         ensures passes { pass.new.view.passes ≡ pass.old.view.passes }
         ensures numbers { pass.new.view.numbers ≡ pass.old.view.numbers }
         ensures answers { (written : List ℕ) × Sends result (W.state sink.old) (W.state sink.new) written
-            × AnswersInfo pass.old written pass.new }
+            × AnswersInfo pass.old (texts sections.now) written pass.new }
     {
-        let count = count_all(rt, self.map, pass);
-        put_info(self.alloc, count, sink)
+        let keys = count_all(moment.rt, self.map, pass);
+        let info = numbers(self.state.server, moment.time, keys);
+        put_info(self.alloc, sections, &info, sink)
     }
 
-    /// Answers a command of the connection.
-    fn answer_connection<H: Wait, W: Sink>(
+    /// Answers a command of the server.
+    fn answer_server<H: Wait, W: Sink>(
         &mut self,
-        rt: &H,
+        moment: &Moment<'_, H>,
         pass: &mut Pass,
         talk: &mut RedisTalk,
-        command: &ConnectionCommand<'_>,
+        command: &ServerCommand<'_>,
         sink: &mut W,
     ) -> Result<(), Failed>
         requires map { pass.old.map ≡ self.old }
@@ -257,19 +278,25 @@ impl<'a, 's> RedisDesk<'a, 's> {
         ensures numbers { pass.new.view.numbers ≡ pass.old.view.numbers }
         ensures number { talk.new.number ≡ talk.old.number }
         ensures answers { (written : List ℕ) × Sends result (W.state sink.old) (W.state sink.new) written
-            × AnswersConnection talk.old pass.old (connection_by command.now) written talk.new pass.new }
+            × AnswersServer talk.old pass.old (server_by command.now) written talk.new pass.new }
     {
-        match command {
-            ConnectionCommand::Info => self.answer_info(rt, pass, sink),
-            _ => answer_connection(self.alloc, talk, command, sink),
+        let server = self.state.server;
+        match *command {
+            ServerCommand::Info { sections } => self.answer_info(moment, pass, sections, sink),
+            ServerCommand::Save => save_line(save(moment.rt, server)).send(&[], sink),
+            ServerCommand::SaveLater => later_line(save_later(server)).send(&[], sink),
+            ServerCommand::LastSaved => {
+                let seconds = server.last_save() / 1000;
+                Replied::Count(seconds).send(&[], sink)
+            }
+            ServerCommand::Shutdown { save } => shut_down(server, talk, save, sink),
         }
     }
 
     /// Answers a command.
     fn answer_command<H: Wait, W: Sink>(
         &mut self,
-        rt: &H,
-        now: u64,
+        moment: &Moment<'_, H>,
         pass: &mut Pass,
         talk: &mut RedisTalk,
         command: &Command<'_>,
@@ -284,31 +311,31 @@ impl<'a, 's> RedisDesk<'a, 's> {
         ensures numbers { pass.new.view.numbers ≡ pass.old.view.numbers }
         ensures number { talk.new.number ≡ talk.old.number }
         ensures answers { (written : List ℕ) × Sends result (W.state sink.old) (W.state sink.new) written
-            × AnswersCommand now talk.old pass.old (asked_by command.now) written talk.new pass.new }
+            × AnswersCommand moment.now.time talk.old pass.old (asked_by command.now) written talk.new pass.new }
     {
         match *command {
-            Command::OnKey { key, act } => self.answer_key(rt, now, pass, key, &act, sink),
-            Command::OnKeys { keys, act } => self.answer_keys(rt, now, pass, keys, act, sink),
+            Command::OnKey { key, act } => self.answer_key(moment, pass, key, &act, sink),
+            Command::OnKeys { keys, act } => self.answer_keys(moment, pass, keys, act, sink),
             Command::SetEach { words } => {
-                let at = self.at(now);
-                put_each(rt, &at, pass, &mut self.room, words).send(&[], sink)
+                let at = self.at(moment.time);
+                put_each(moment.rt, &at, pass, &mut self.room, words).send(&[], sink)
             }
-            Command::Connection(command) => {
-                self.answer_connection(rt, pass, talk, &command, sink)
-            }
+            Command::Connection(command) => answer_connection(self.alloc, talk, &command, sink),
+            Command::Server(command) => self.answer_server(moment, pass, talk, &command, sink),
             Command::Walk(command) => {
+                self.state.counts.count_walk();
                 self.walks = self.walks.wrapping_add(1);
                 let ground = Ground {
                     alloc: self.alloc,
                     map: self.map,
                     number: self.walks,
-                    time: now,
+                    time: moment.time,
                 };
-                answer_walk(rt, &ground, pass, &command, sink)
+                answer_walk(moment.rt, &ground, pass, &command, sink)
             }
             Command::Program(command) => {
-                let programs = self.programs(now);
-                answer_program(rt, &programs, pass, &mut self.room, &command, sink)
+                let programs = self.programs(moment.time);
+                answer_program(moment.rt, &programs, pass, &mut self.room, &command, sink)
             }
         }
     }
@@ -316,8 +343,7 @@ impl<'a, 's> RedisDesk<'a, 's> {
     /// Answers the words of a command.
     fn answer<H: Wait, W: Sink>(
         &mut self,
-        rt: &H,
-        now: u64,
+        moment: &Moment<'_, H>,
         pass: &mut Pass,
         talk: &mut RedisTalk,
         words: &[&[u8]],
@@ -331,23 +357,23 @@ impl<'a, 's> RedisDesk<'a, 's> {
         ensures numbers { pass.new.view.numbers ≡ pass.old.view.numbers }
         ensures number { talk.new.number ≡ talk.old.number }
         ensures answers { (written : List ℕ) × Sends result (W.state sink.old) (W.state sink.new) written
-            × AnswersWords now talk.old pass.old (texts words.now) written talk.new pass.new }
+            × AnswersWords moment.now.time talk.old pass.old (texts words.now) written talk.new pass.new }
     {
-        match command_of(words, now) {
-            Ok(command) => self.answer_command(rt, now, pass, talk, &command, sink),
+        self.state.counts.count_command();
+        match command_of(words, moment.time) {
+            Ok(command) => self.answer_command(moment, pass, talk, &command, sink),
             Err(fault) => refuse(talk, &fault, sink),
         }
     }
 
     /// Answers the commands that the reader reads, one after the other, until the talk is over or there is none. Returns why there is
     /// none.
-    fn answer_all<'b, H: Wait, W: Sink>(
+    fn answer_all<'b: 'w, 'w, H: Wait, W: Sink>(
         &mut self,
-        rt: &H,
-        now: u64,
+        moment: &Moment<'_, H>,
         pass: &mut Pass,
         talk: &mut RedisTalk,
-        reader: &mut Reader<'b>,
+        reader: &mut Reader<'b, 'w>,
         sink: &mut W,
     ) -> Result<Option<NextFault>, Failed>
         requires map { pass.old.map ≡ self.old }
@@ -357,12 +383,12 @@ impl<'a, 's> RedisDesk<'a, 's> {
         ensures passes { pass.new.view.passes ≡ pass.old.view.passes }
         ensures numbers { pass.new.view.numbers ≡ pass.old.view.numbers }
         ensures number { talk.new.number ≡ talk.old.number }
-        ensures ok { IfOk result (λ fault. AnswersAll now (W.state sink.old) (W.state sink.new) talk.old pass.old reader.old.rest.now fault talk.new pass.new reader.new.rest.now) }
-        ensures err { OnErr result (FailsAt now (W.state sink.old) (W.state sink.new) talk.old pass.old reader.old.rest.now talk.new pass.new) }
+        ensures ok { IfOk result (λ fault. AnswersAll moment.now.time (W.state sink.old) (W.state sink.new) talk.old pass.old reader.old.rest.now fault talk.new pass.new reader.new.rest.now) }
+        ensures err { OnErr result (FailsAt moment.now.time (W.state sink.old) (W.state sink.new) talk.old pass.old reader.old.rest.now talk.new pass.new) }
     {
         while !talk.is_over() {
             match reader.next() {
-                Ok(Next::Command(_)) => self.answer(rt, now, pass, talk, &reader.words, sink)?,
+                Ok(Next::Command(_)) => self.answer(moment, pass, talk, &reader.words, sink)?,
                 Ok(Next::Nothing(_)) => {}
                 Ok(Next::More) => return Ok(None),
                 Err(fault) => return Ok(Some(fault)),
@@ -374,8 +400,7 @@ impl<'a, 's> RedisDesk<'a, 's> {
     /// Answers the commands that the bytes begin with. Returns why there is none left, and the bytes that are left.
     fn answer_bytes<'b, H: Wait, W: Sink>(
         &mut self,
-        rt: &H,
-        now: u64,
+        moment: &Moment<'_, H>,
         pass: &mut Pass,
         talk: &mut RedisTalk,
         bytes: &'b [u8],
@@ -388,19 +413,19 @@ impl<'a, 's> RedisDesk<'a, 's> {
         ensures passes { pass.new.view.passes ≡ pass.old.view.passes }
         ensures numbers { pass.new.view.numbers ≡ pass.old.view.numbers }
         ensures number { talk.new.number ≡ talk.old.number }
-        ensures ok { IfOk result (λ left. AnswersAll now (W.state sink.old) (W.state sink.new) talk.old pass.old bytes.now left.0 talk.new pass.new left.1.now) }
-        ensures err { OnErr result (FailsAt now (W.state sink.old) (W.state sink.new) talk.old pass.old bytes.now talk.new pass.new) }
+        ensures ok { IfOk result (λ left. AnswersAll moment.now.time (W.state sink.old) (W.state sink.new) talk.old pass.old bytes.now left.0 talk.new pass.new left.1.now) }
+        ensures err { OnErr result (FailsAt moment.now.time (W.state sink.old) (W.state sink.new) talk.old pass.old bytes.now talk.new pass.new) }
     {
-        let mut reader = Reader::new(self.alloc, bytes);
-        let fault = self.answer_all(rt, now, pass, talk, &mut reader, sink)?;
+        let arena = Bump::new(self.alloc);
+        let mut reader = Reader::new(self.alloc, bytes, &arena);
+        let fault = self.answer_all(moment, pass, talk, &mut reader, sink)?;
         Ok((fault, reader.rest))
     }
 
     /// Answers the commands that the bytes begin with, and keeps what follows the last whole one.
     fn take_bytes<H: Wait, W: Sink>(
         &mut self,
-        rt: &H,
-        now: u64,
+        moment: &Moment<'_, H>,
         pass: &mut Pass,
         talk: &mut RedisTalk,
         bytes: &[u8],
@@ -413,9 +438,9 @@ impl<'a, 's> RedisDesk<'a, 's> {
         ensures passes { pass.new.view.passes ≡ pass.old.view.passes }
         ensures numbers { pass.new.view.numbers ≡ pass.old.view.numbers }
         ensures number { talk.new.number ≡ talk.old.number }
-        ensures taken { Taken now result (W.state sink.old) (W.state sink.new) talk.old pass.old bytes.now talk.new pass.new }
+        ensures taken { Taken moment.now.time result (W.state sink.old) (W.state sink.new) talk.old pass.old bytes.now talk.new pass.new }
     {
-        let Ok((fault, rest)) = self.answer_bytes(rt, now, pass, talk, bytes, sink) else {
+        let Ok((fault, rest)) = self.answer_bytes(moment, pass, talk, bytes, sink) else {
             talk.end(self.alloc);
             return Err(TalkEnd::WriteFailed);
         };
@@ -426,8 +451,7 @@ impl<'a, 's> RedisDesk<'a, 's> {
     /// place, so a long command is not copied with each piece.
     fn take_held<H: Wait, W: Sink>(
         &mut self,
-        rt: &H,
-        now: u64,
+        moment: &Moment<'_, H>,
         pass: &mut Pass,
         talk: &mut RedisTalk,
         held: Vec<u8>,
@@ -440,9 +464,9 @@ impl<'a, 's> RedisDesk<'a, 's> {
         ensures passes { pass.new.view.passes ≡ pass.old.view.passes }
         ensures numbers { pass.new.view.numbers ≡ pass.old.view.numbers }
         ensures number { talk.new.number ≡ talk.old.number }
-        ensures taken { Taken now result (W.state sink.old) (W.state sink.new) talk.old pass.old held.items talk.new pass.new }
+        ensures taken { Taken moment.now.time result (W.state sink.old) (W.state sink.new) talk.old pass.old held.items talk.new pass.new }
     {
-        let Ok((fault, rest)) = self.answer_bytes(rt, now, pass, talk, &held, sink) else {
+        let Ok((fault, rest)) = self.answer_bytes(moment, pass, talk, &held, sink) else {
             talk.end(self.alloc);
             return Err(TalkEnd::WriteFailed);
         };
@@ -454,11 +478,11 @@ impl<'a, 's> RedisDesk<'a, 's> {
     }
 
     /// Answers the commands that this piece completes, in order, each into the sink before it looks at the next one. Their calls are
-    /// made at the time `now`, in milliseconds since the epoch. Keeps what follows the last whole command. An `Err` says why the talk ended. Waits until the stripes of the commands' keys are free.
+    /// made at the time of this moment. Keeps what follows the last whole command. An `Err` says why the talk ended. Waits until the
+    /// stripes of the commands' keys are free.
     pub fn take<H: Wait, W: Sink>(
         &mut self,
-        rt: &H,
-        now: u64,
+        moment: &Moment<'_, H>,
         pass: &mut Pass,
         talk: &mut RedisTalk,
         piece: &[u8],
@@ -474,27 +498,27 @@ impl<'a, 's> RedisDesk<'a, 's> {
         // The piece was taken, and all its commands are answered.
         ensures ok { OnOk result ((talk.new.is_over ≡ false) × ((written : List ℕ)
             × TakesBytes (W.state sink.old) (W.state sink.new) written
-            × AnswersPiece now talk.old pass.old piece.now written talk.new pass.new)) }
+            × AnswersPiece moment.now.time talk.old pass.old piece.now written talk.new pass.new)) }
         // The client asked for the end, or its bytes have a fault, whose text ends the answers.
         ensures over { result ≡ Err TalkEnd.Over → (talk.new.is_over ≡ true) × ((written : List ℕ)
             × TakesBytes (W.state sink.old) (W.state sink.new) written
-            × AnswersPiece now talk.old pass.old piece.now written talk.new pass.new) }
+            × AnswersPiece moment.now.time talk.old pass.old piece.now written talk.new pass.new) }
         ensures memory { result ≡ Err TalkEnd.NoMemory
             → (talk.new ≡ talk.old) × (pass.new ≡ pass.old) × (W.state sink.new ≡ W.state sink.old) }
         // One command was made whose answer is not wholly written, and none after it.
         ensures write { result ≡ Err TalkEnd.WriteFailed → ((written : List ℕ)
             × TakesThenFails (W.state sink.old) (W.state sink.new) written
-            × BreaksPiece now talk.old pass.old piece.now written talk.new pass.new) }
+            × BreaksPiece moment.now.time talk.old pass.old piece.now written talk.new pass.new) }
     {
         if talk.rest.is_empty() {
-            return self.take_bytes(rt, now, pass, talk, piece, sink);
+            return self.take_bytes(moment, pass, talk, piece, sink);
         }
         let mut held = mem::replace(&mut talk.rest, Vec::new(self.alloc));
         if held.extend_from_slice(piece).is_err() {
             talk.rest = held;
             return Err(TalkEnd::NoMemory);
         }
-        self.take_held(rt, now, pass, talk, held, sink)
+        self.take_held(moment, pass, talk, held, sink)
     }
 
     /// Takes entries away whose time is over at `now`: some of each stripe, one a hold. Returns whether some may be left that are over
@@ -506,7 +530,8 @@ impl<'a, 's> RedisDesk<'a, 's> {
         ensures numbers { pass.new.view.numbers ≡ pass.old.view.numbers }
         ensures sweeps { Sweeps now pass.old pass.new }
     {
-        self.room.sweeper.sweep(rt, self.map, pass, now)
+        let counts = self.state.counts;
+        self.room.sweeper.sweep(rt, self.map, pass, now, counts)
     }
 
     /// Returns when to sweep next, in milliseconds since the epoch, or none if no command of this desk set a deadline.

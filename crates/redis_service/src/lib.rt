@@ -3,8 +3,8 @@
 //! The promise to the layers above: `RedisDesk::take` answers the commands that a piece of a client's bytes completes, in order, and
 //! keeps the rest for the next piece (`AnswersPiece` of `specs/Talks.antt`). Each call of a command is made at the time that `take` is
 //! given, so no command sees an entry whose time is over. What each command does, the calls that it makes, in order, and its reply, is in
-//! four tables: `specs/Answers.antt` (keys), `specs/Walks.antt` (the whole map), `specs/Programs.antt` (scripts and locks) and
-//! `specs/Connections.antt`. A command of several keys is one event for each. Calls wait until a stripe is free.
+//! five tables: `specs/Answers.antt` (keys), `specs/Walks.antt` (the whole map), `specs/Programs.antt` (scripts and locks),
+//! `specs/Connections.antt` and `specs/Saving.antt` (the server). A command of several keys is one event for each. Calls wait until a stripe is free.
 #![tactic(auto)]
 
 mod calls;
@@ -13,13 +13,16 @@ mod connection;
 mod deadlines;
 mod desk;
 mod errors;
+mod info;
 mod keyed;
 mod lines;
 mod locks;
+mod moment;
 mod programs;
 mod reader;
 mod reply;
 mod room;
+mod saving;
 mod server;
 mod several;
 mod sweeper;
@@ -30,5 +33,6 @@ mod walks;
 
 pub use desk::{RedisDesk, TalkEnd};
 pub use lines::{NO_MEMORY_LINE, NO_ROOM_LINE};
+pub use moment::Moment;
 pub use sweeper::Sweeper;
 pub use talk::RedisTalk;

@@ -5,7 +5,7 @@ ghost use Rattle.devices.specs.Devices.{CanWrite};
 ghost use Rattle.redis_commands.specs.Commands.{texts};
 ghost use Rattle.redis_service.specs.Replied.{replied_bytes};
 ghost use Rattle.redis_service.specs.Sending.{Sends};
-ghost use Rattle.redis_service.specs.Server.{joined, client_line, info_text, setting_of, is_setting, setting_bytes, config_bytes};
+ghost use Rattle.redis_service.specs.Server.{joined, client_line, setting_of, is_setting, setting_bytes, config_bytes};
 
 use crate::reply::Replied;
 use bpf_model::NoMemory;
@@ -14,7 +14,7 @@ use itoa::Buffer;
 use std::alloc::Global;
 
 /// Returns the texts, one after the other.
-fn joined(alloc: Global, parts: &[&[u8]]) -> Result<Vec<u8>, NoMemory>
+pub fn joined(alloc: Global, parts: &[&[u8]]) -> Result<Vec<u8>, NoMemory>
     ensures { IfOk result (λ text. text.items ≡ joined (texts parts.now)) }
 {
     let mut text = Vec::new(alloc);
@@ -42,26 +42,8 @@ pub fn client_line(alloc: Global, number: u64, name: &[u8]) -> Result<Vec<u8>, N
     joined(alloc, &[b"id=", number, CLIENT_MIDDLE, name, CLIENT_TAIL])
 }
 
-/// What `INFO` says before the number of keys.
-const INFO_HEAD: &[u8] =
-    b"# Server\r\nredis_version:7.0.15\r\nredis_mode:standalone\r\n\r\n# Clients\r\nconnected_clients:1\r\nblocked_clients:0\r\n\r\n# Memory\r\nused_memory:0\r\nused_memory_human:0B\r\nmaxmemory:0\r\nmaxmemory_policy:noeviction\r\n\r\n# Persistence\r\nloading:0\r\n\r\n# Stats\r\ntotal_connections_received:0\r\ntotal_commands_processed:0\r\ninstantaneous_ops_per_sec:0\r\n\r\n# Replication\r\nrole:master\r\nconnected_slaves:0\r\n\r\n# Keyspace\r\ndb0:keys=";
-
-/// What `INFO` says after the number of keys.
-const INFO_TAIL: &[u8] = b",expires=0,avg_ttl=0\r\n";
-
-/// Returns what `INFO` says of a map with this many keys.
-pub fn info_text(alloc: Global, count: u64) -> Result<Vec<u8>, NoMemory>
-    ensures { IfOk result (λ text. text.items ≡ info_text count) }
-{
-    let mut digits = Buffer::new();
-    joined(
-        alloc,
-        &[INFO_HEAD, digits.format(count).as_bytes(), INFO_TAIL],
-    )
-}
-
 /// Tests whether a word is this one, in any case.
-fn is(name: &str, word: &[u8]) -> bool
+pub fn is(name: &str, word: &[u8]) -> bool
     ensures { result ≡ str_eq_ignore_ascii_case name.now word.now }
 {
     name.as_bytes().eq_ignore_ascii_case(word)

@@ -6,6 +6,7 @@ ghost use Rattle.bin_stripes.specs.Passes.{ServesSameMap, stripes_of};
 ghost use Rattle.redis_service.specs.Sweeps.{SweepsAll, SweepsStripe, sooner, next_after, next_of};
 
 use bin_stripes::{Expiry, Pass, StripedMap};
+use server_state::WorkerCounts;
 use std::marker::Model;
 use std::sync::Wait;
 
@@ -55,9 +56,23 @@ fn is_took(answer: Expiry) -> bool
     matches!(answer, Expiry::Took)
 }
 
+/// Counts an entry, if one was taken away.
+fn count_taken(counts: &WorkerCounts, answer: Expiry) {
+    if is_took(answer) {
+        counts.count_expired(1);
+    }
+}
+
 /// Takes at most 20 entries of one stripe away whose time is over at `now`, each in a hold of its own, and returns the last answer:
 /// `Took` if there may be more. Takes no memory. Waits until the stripe is free.
-fn sweep_stripe<R: Wait>(rt: &R, map: &StripedMap, pass: &mut Pass, stripe: u64, now: u64) -> Expiry
+fn sweep_stripe<R: Wait>(
+    rt: &R,
+    map: &StripedMap,
+    pass: &mut Pass,
+    stripe: u64,
+    now: u64,
+    counts: &WorkerCounts,
+) -> Expiry
     requires map { pass.old.map ≡ map.now }
     requires stripe { stripe < stripes_of map.now }
     ensures same { ServesSameMap pass.old pass.new }
@@ -68,8 +83,11 @@ fn sweep_stripe<R: Wait>(rt: &R, map: &StripedMap, pass: &mut Pass, stripe: u64,
         if !is_took(answer) {
             return answer;
         }
+        counts.count_expired(1);
     }
-    map.expire_one(rt, pass, stripe, now)
+    let last = map.expire_one(rt, pass, stripe, now);
+    count_taken(counts, last);
+    last
 }
 
 impl Sweeper {
@@ -97,7 +115,14 @@ impl Sweeper {
     /// Takes entries away whose time is over at `now`, in milliseconds since the epoch: of each stripe in turn at most 20, each in a
     /// hold of its own. Returns whether more may be left that are over: 20 of some stripe went. The next time is then `now`, else
     /// the first deadline that is left, or none if none is left. Takes no memory. Waits until each stripe is free.
-    pub fn sweep<R: Wait>(&mut self, rt: &R, map: &StripedMap, pass: &mut Pass, now: u64) -> bool
+    pub fn sweep<R: Wait>(
+        &mut self,
+        rt: &R,
+        map: &StripedMap,
+        pass: &mut Pass,
+        now: u64,
+        counts: &WorkerCounts,
+    ) -> bool
         requires map { pass.old.map ≡ map.now }
         ensures same { ServesSameMap pass.old pass.new }
         ensures numbers { pass.new.view.numbers ≡ pass.old.view.numbers }
@@ -107,7 +132,7 @@ impl Sweeper {
         let mut next = None;
         let mut is_more = false;
         for stripe in 0..map.stripes() {
-            let answer = sweep_stripe(rt, map, pass, stripe, now);
+            let answer = sweep_stripe(rt, map, pass, stripe, now, counts);
             next = sooner(next, next_after(now, answer));
             is_more |= is_took(answer);
         }

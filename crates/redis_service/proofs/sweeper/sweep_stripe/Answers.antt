@@ -35,6 +35,6 @@ loop-preserved g c =
 pub returns-clause-sweeps : goal.returns-clause-sweeps
 returns-clause-sweeps g c =
     let (often, (at, looks)) = c.loop.invariant.took in
-    let e = c.expire_one.ensures in
-    stripe_swept c.args.now c.args.pass.now c.args.stripe often c.loop.pass c.expire_one.new.pass c.expire_one.result looks e.same e.expires
+    let e = c.expire_one-last.ensures in
+    stripe_swept c.args.now c.args.pass.now c.args.stripe often c.loop.pass c.expire_one-last.new.pass c.expire_one-last.result looks e.same e.expires
     (omega (arith, at, c.loop.auto.counter-end)) (λ took. omega (arith, at, c.loop-test.false, c.loop.auto.counter-end))

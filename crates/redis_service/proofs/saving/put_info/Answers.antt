@@ -2,7 +2,7 @@ use Rattle.std.proofs.Common.{refl, inl, inr, ap, ◌∙◌}
 use Rattle.resp.specs.Replies.{value_bytes}
 use Rattle.redis_service.specs.Lines.{no_memory_line}
 use Rattle.redis_service.proofs.SendLemmas.{sends_of}
-use Rattle.redis_service.proofs.connection.put_info.Goals as goal
+use Rattle.redis_service.proofs.saving.put_info.Goals as goal
 
 pub returns-in-Ok : goal.returns-in-Ok
 returns-in-Ok g c = (
