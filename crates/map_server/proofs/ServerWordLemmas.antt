@@ -130,7 +130,7 @@ module _ (wanted : Bool) where
   abbrev option_at : ℕ → Rule → Rule
   option_at k other = slice_index_or (mapd_options wanted) k other
 
-  plain_rule : (k : ℕ) (r : Rule) → k < 9 → ((option_at k r).is_simple ≡ true) × ((option_at k r).is_free ≡ true)
+  plain_rule : (k : ℕ) (r : Rule) → k < 12 → ((option_at k r).is_simple ≡ true) × ((option_at k r).is_free ≡ true)
   plain_rule zero r lt = (refl, refl)
   plain_rule (suc zero) r lt = (refl, refl)
   plain_rule (suc (suc zero)) r lt = (refl, refl)
@@ -140,10 +140,13 @@ module _ (wanted : Bool) where
   plain_rule (suc (suc (suc (suc (suc (suc zero)))))) r lt = (refl, refl)
   plain_rule (suc (suc (suc (suc (suc (suc (suc zero))))))) r lt = (refl, refl)
   plain_rule (suc (suc (suc (suc (suc (suc (suc (suc zero)))))))) r lt = (refl, refl)
-  plain_rule (suc (suc (suc (suc (suc (suc (suc (suc (suc k))))))))) r lt = absurd (omega arith)
+  plain_rule (suc (suc (suc (suc (suc (suc (suc (suc (suc zero))))))))) r lt = (refl, refl)
+  plain_rule (suc (suc (suc (suc (suc (suc (suc (suc (suc (suc zero)))))))))) r lt = (refl, refl)
+  plain_rule (suc (suc (suc (suc (suc (suc (suc (suc (suc (suc (suc zero))))))))))) r lt = (refl, refl)
+  plain_rule (suc (suc (suc (suc (suc (suc (suc (suc (suc (suc (suc (suc k)))))))))))) r lt = absurd (omega arith)
 
   abbrev IsOnly : ℕ → Type 0
-  IsOnly k = (j : ℕ) (r s : Rule) → j < 9 → bytes_eq (option_at j r).id (option_at k s).id ≡ true → j ≡ k
+  IsOnly k = (j : ℕ) (r s : Rule) → j < 12 → bytes_eq (option_at j r).id (option_at k s).id ≡ true → j ≡ k
 
   only_listen : IsOnly 0
   only_listen zero r s lt same = refl
@@ -155,7 +158,10 @@ module _ (wanted : Bool) where
   only_listen (suc (suc (suc (suc (suc (suc zero)))))) r s lt same = absurd (true≢false (sym same))
   only_listen (suc (suc (suc (suc (suc (suc (suc zero))))))) r s lt same = absurd (true≢false (sym same))
   only_listen (suc (suc (suc (suc (suc (suc (suc (suc zero)))))))) r s lt same = absurd (true≢false (sym same))
-  only_listen (suc (suc (suc (suc (suc (suc (suc (suc (suc j))))))))) r s lt same = absurd (omega arith)
+  only_listen (suc (suc (suc (suc (suc (suc (suc (suc (suc zero))))))))) r s lt same = absurd (true≢false (sym same))
+  only_listen (suc (suc (suc (suc (suc (suc (suc (suc (suc (suc zero)))))))))) r s lt same = absurd (true≢false (sym same))
+  only_listen (suc (suc (suc (suc (suc (suc (suc (suc (suc (suc (suc zero))))))))))) r s lt same = absurd (true≢false (sym same))
+  only_listen (suc (suc (suc (suc (suc (suc (suc (suc (suc (suc (suc (suc j)))))))))))) r s lt same = absurd (omega arith)
 
   only_workers : IsOnly 3
   only_workers zero r s lt same = absurd (true≢false (sym same))
@@ -167,7 +173,10 @@ module _ (wanted : Bool) where
   only_workers (suc (suc (suc (suc (suc (suc zero)))))) r s lt same = absurd (true≢false (sym same))
   only_workers (suc (suc (suc (suc (suc (suc (suc zero))))))) r s lt same = absurd (true≢false (sym same))
   only_workers (suc (suc (suc (suc (suc (suc (suc (suc zero)))))))) r s lt same = absurd (true≢false (sym same))
-  only_workers (suc (suc (suc (suc (suc (suc (suc (suc (suc j))))))))) r s lt same = absurd (omega arith)
+  only_workers (suc (suc (suc (suc (suc (suc (suc (suc (suc zero))))))))) r s lt same = absurd (true≢false (sym same))
+  only_workers (suc (suc (suc (suc (suc (suc (suc (suc (suc (suc zero)))))))))) r s lt same = absurd (true≢false (sym same))
+  only_workers (suc (suc (suc (suc (suc (suc (suc (suc (suc (suc (suc zero))))))))))) r s lt same = absurd (true≢false (sym same))
+  only_workers (suc (suc (suc (suc (suc (suc (suc (suc (suc (suc (suc (suc j)))))))))))) r s lt same = absurd (omega arith)
 
   only_team : IsOnly 4
   only_team zero r s lt same = absurd (true≢false (sym same))
@@ -179,7 +188,10 @@ module _ (wanted : Bool) where
   only_team (suc (suc (suc (suc (suc (suc zero)))))) r s lt same = absurd (true≢false (sym same))
   only_team (suc (suc (suc (suc (suc (suc (suc zero))))))) r s lt same = absurd (true≢false (sym same))
   only_team (suc (suc (suc (suc (suc (suc (suc (suc zero)))))))) r s lt same = absurd (true≢false (sym same))
-  only_team (suc (suc (suc (suc (suc (suc (suc (suc (suc j))))))))) r s lt same = absurd (omega arith)
+  only_team (suc (suc (suc (suc (suc (suc (suc (suc (suc zero))))))))) r s lt same = absurd (true≢false (sym same))
+  only_team (suc (suc (suc (suc (suc (suc (suc (suc (suc (suc zero)))))))))) r s lt same = absurd (true≢false (sym same))
+  only_team (suc (suc (suc (suc (suc (suc (suc (suc (suc (suc (suc zero))))))))))) r s lt same = absurd (true≢false (sym same))
+  only_team (suc (suc (suc (suc (suc (suc (suc (suc (suc (suc (suc (suc j)))))))))))) r s lt same = absurd (omega arith)
 
   only_clients : IsOnly 6
   only_clients zero r s lt same = absurd (true≢false (sym same))
@@ -191,7 +203,25 @@ module _ (wanted : Bool) where
   only_clients (suc (suc (suc (suc (suc (suc zero)))))) r s lt same = refl
   only_clients (suc (suc (suc (suc (suc (suc (suc zero))))))) r s lt same = absurd (true≢false (sym same))
   only_clients (suc (suc (suc (suc (suc (suc (suc (suc zero)))))))) r s lt same = absurd (true≢false (sym same))
-  only_clients (suc (suc (suc (suc (suc (suc (suc (suc (suc j))))))))) r s lt same = absurd (omega arith)
+  only_clients (suc (suc (suc (suc (suc (suc (suc (suc (suc zero))))))))) r s lt same = absurd (true≢false (sym same))
+  only_clients (suc (suc (suc (suc (suc (suc (suc (suc (suc (suc zero)))))))))) r s lt same = absurd (true≢false (sym same))
+  only_clients (suc (suc (suc (suc (suc (suc (suc (suc (suc (suc (suc zero))))))))))) r s lt same = absurd (true≢false (sym same))
+  only_clients (suc (suc (suc (suc (suc (suc (suc (suc (suc (suc (suc (suc j)))))))))))) r s lt same = absurd (omega arith)
+
+  only_keep_seconds : IsOnly 10
+  only_keep_seconds zero r s lt same = absurd (true≢false (sym same))
+  only_keep_seconds (suc zero) r s lt same = absurd (true≢false (sym same))
+  only_keep_seconds (suc (suc zero)) r s lt same = absurd (true≢false (sym same))
+  only_keep_seconds (suc (suc (suc zero))) r s lt same = absurd (true≢false (sym same))
+  only_keep_seconds (suc (suc (suc (suc zero)))) r s lt same = absurd (true≢false (sym same))
+  only_keep_seconds (suc (suc (suc (suc (suc zero))))) r s lt same = absurd (true≢false (sym same))
+  only_keep_seconds (suc (suc (suc (suc (suc (suc zero)))))) r s lt same = absurd (true≢false (sym same))
+  only_keep_seconds (suc (suc (suc (suc (suc (suc (suc zero))))))) r s lt same = absurd (true≢false (sym same))
+  only_keep_seconds (suc (suc (suc (suc (suc (suc (suc (suc zero)))))))) r s lt same = absurd (true≢false (sym same))
+  only_keep_seconds (suc (suc (suc (suc (suc (suc (suc (suc (suc zero))))))))) r s lt same = absurd (true≢false (sym same))
+  only_keep_seconds (suc (suc (suc (suc (suc (suc (suc (suc (suc (suc zero)))))))))) r s lt same = refl
+  only_keep_seconds (suc (suc (suc (suc (suc (suc (suc (suc (suc (suc (suc zero))))))))))) r s lt same = absurd (true≢false (sym same))
+  only_keep_seconds (suc (suc (suc (suc (suc (suc (suc (suc (suc (suc (suc (suc j)))))))))))) r s lt same = absurd (omega arith)
 
 plain_arg : (a : Arg) → is_simple_arg a ≡ true → is_free_arg a ≡ true → IsPlainArg a
 plain_arg a simple free =
@@ -282,17 +312,17 @@ module _ (wanted : Bool) (c : Command) (is : app_of c ≡ mapd wanted) where
   rules_are : map rule_of (args_of c) ≡ mapd_options wanted
   rules_are = ap (λ (a : App). a.top.rules) is
 
-  nine : length (args_of c) ≡ 9
-  nine = sym (map_length (args_of c)) ∙ ap length rules_are
+  twelve : length (args_of c) ≡ 12
+  twelve = sym (map_length (args_of c)) ∙ ap length rules_are
 
   rule_is : (k : ℕ) (d : Arg) → rule_of (slice_index_or (args_of c) k d) ≡ option_at wanted k (rule_of d)
   rule_is k d = rule_at (args_of c) k d ∙ ap (λ (rs : List Rule). slice_index_or rs k (rule_of d)) rules_are
 
   simple_is : (k : ℕ) (d : Arg) → k < length (args_of c) → is_simple_arg (slice_index_or (args_of c) k d) ≡ true
-  simple_is k d lt = ap (λ (r : Rule). r.is_simple) (rule_is k d) ∙ (plain_rule wanted k (rule_of d) (subst (λ (n : ℕ). k < n) nine lt)).0
+  simple_is k d lt = ap (λ (r : Rule). r.is_simple) (rule_is k d) ∙ (plain_rule wanted k (rule_of d) (subst (λ (n : ℕ). k < n) twelve lt)).0
 
   args_plain : All IsPlainArg (args_of c)
-  args_plain = λ k d lt. plain_arg (slice_index_or (args_of c) k d) (simple_is k d lt) (ap (λ (r : Rule). r.is_free) (rule_is k d) ∙ (plain_rule wanted k (rule_of d) (subst (λ (n : ℕ). k < n) nine lt)).1)
+  args_plain = λ k d lt. plain_arg (slice_index_or (args_of c) k d) (simple_is k d lt) (ap (λ (r : Rule). r.is_free) (rule_is k d) ∙ (plain_rule wanted k (rule_of d) (subst (λ (n : ℕ). k < n) twelve lt)).1)
 
   command_plain : IsPlain c
   command_plain = (args_plain, is_nil _ (both _ _ (ap (λ (a : App). a.top.is_plain) is)).0)
@@ -308,12 +338,12 @@ module _ (wanted : Bool) (c : Command) (is : app_of c ≡ mapd wanted) where
   unique k d only j e lt same =
       let first = ap (λ (r : Rule). r.id) (rule_is j e) in
       let second = ap (λ (r : Rule). r.id) (rule_is k d) in
-      only j (rule_of e) (rule_of d) (subst (λ (n : ℕ). j < n) nine lt) (subst (λ (t : List ℕ). bytes_eq (option_at wanted j (rule_of e)).id t ≡ true) second (subst (λ (t : List ℕ). bytes_eq t (slice_index_or (args_of c) k d).id.now ≡ true) first same))
+      only j (rule_of e) (rule_of d) (subst (λ (n : ℕ). j < n) twelve lt) (subst (λ (t : List ℕ). bytes_eq (option_at wanted j (rule_of e)).id t ≡ true) second (subst (λ (t : List ℕ). bytes_eq t (slice_index_or (args_of c) k d).id.now ≡ true) first same))
 
   -- the address is there, if it is wanted
   pub listen_given : wanted ≡ true → (m : ArgMatches) → IsParsedFrom c m → is_some (first_value (found_of m) (codes "listen")) ≡ true
   listen_given so m p =
-      let lt : 0 < length (args_of c) = rw nine (omega arith) in
+      let lt : 0 < length (args_of c) = rw twelve (omega arith) in
       let d = some_arg (args_of c) lt in
       let a = slice_index_or (args_of c) 0 d in
       let r = rule_is 0 d in
@@ -373,11 +403,11 @@ module _ (wanted : Bool) (c : Command) (is : app_of c ≡ mapd wanted) where
             (subst (λ (a : MatchedArg). All (λ v. IsSignedIn (pos 1) (pos most) v.now) a.vals.items) got.1 (λ i d lt. values _ (all i d lt)))
 
     -- what the option is read as, or its default, lies in the range
-    range_given : (default : ℕ) → 1 ≤ default → default ≤ most → most < 2 ^ 16 → k < 9 → ((r : Rule) → (option_at wanted k r).parser ≡ Some (Signed (pos 1) (pos most)))
+    range_given : (default : ℕ) → 1 ≤ default → default ≤ most → most < 2 ^ 16 → k < 12 → ((r : Rule) → (option_at wanted k r).parser ≡ Some (Signed (pos 1) (pos most)))
         → ((r : Rule) → (option_at wanted k r).id ≡ id) → (id ≡ [] → ⊥) → (id ≡ codes "help" → ⊥) → (id ≡ codes "version" → ⊥)
         → (1 ≤ given_size (rows_of (found_of m)) id default) × (given_size (rows_of (found_of m)) id default ≤ most)
     range_given default low high fits inside parser named some help version =
-        let lt : k < length (args_of c) = rw nine inside in
+        let lt : k < length (args_of c) = rw twelve inside in
         let d = some_arg (args_of c) (omega arith) in
         let is_named : (arg d).id.now ≡ id = ap (λ (r : Rule). r.id) (rule_is k d) ∙ named (rule_of d) in
         let is_parsed : (arg d).value_parser ≡ Some (Signed (pos 1) (pos most)) = ap (λ (r : Rule). r.parser) (rule_is k d) ∙ parser (rule_of d) in
@@ -395,6 +425,9 @@ module _ (wanted : Bool) (c : Command) (is : app_of c ≡ mapd wanted) where
     clients_given : (1 ≤ given_size (rows_of (found_of m)) (codes "clients") 1000) × (given_size (rows_of (found_of m)) (codes "clients") 1000 ≤ 65535)
     clients_given = range_given m p 6 (only_clients wanted) 65535 (codes "clients") 1000 (omega arith) (omega arith) (omega arith) (omega arith) (λ r. refl) (λ r. refl) (differ _ _ refl) (differ _ _ refl) (differ _ _ refl)
 
+    seconds_given : (1 ≤ given_size (rows_of (found_of m)) (codes "keep-seconds") 1) × (given_size (rows_of (found_of m)) (codes "keep-seconds") 1 ≤ 3600)
+    seconds_given = range_given m p 10 (only_keep_seconds wanted) 3600 (codes "keep-seconds") 1 (omega arith) (omega arith) (omega arith) (omega arith) (λ r. refl) (λ r. refl) (differ _ _ refl) (differ _ _ refl) (differ _ _ refl)
+
     -- what the options ask for lies in its ranges
     pub in_range : (asked : MapdWords) → AsksFor (rows_of (found_of m)) asked → (is_some asked.listen ≡ true) ⊎ (is_some asked.redis ≡ true) → IsInRange asked
     in_range asked asks some = record {
@@ -405,4 +438,6 @@ module _ (wanted : Bool) (c : Command) (is : app_of c ≡ mapd wanted) where
       team = rw asks.team team_given.1;
       some_client = rw asks.clients clients_given.0;
       clients = rw asks.clients clients_given.1;
+      some_second = rw asks.keep_seconds seconds_given.0;
+      seconds = rw asks.keep_seconds seconds_given.1;
     }

@@ -1,5 +1,5 @@
 -- What a call of `mapd` does: what its words ask for, and what is told of it.
-use Rattle.std.specs.Prelude.{◌≡◌, ◌+◌, ◌*◌, ◌⊎◌, ℕ, false, if◌then◌else◌, List, ◌++◌, codes, decimal, IfOk, IsOk, IsErr}
+use Rattle.std.specs.Prelude.{◌≡◌, ◌⊎◌, ℕ, true, false, is_some, if◌then◌else◌, List, ◌++◌, codes, decimal, IfOk, IsOk, IsErr}
 use Rattle.clap.specs.Words.{IsAmong, fault_of}
 use Rattle.clap.specs.declared.error.ErrorKind.{ErrorKind}
 use Rattle.bin_stripes.specs.Opened.{IsPassCount}
@@ -14,7 +14,7 @@ use Rattle.map_commands.specs.Executions.{IsBadCount}
 use Rattle.crews.specs.Crews.{AllCarrySame}
 use Rattle.map_server.specs.declared.server.Server.{Server}
 use Rattle.map_server.specs.declared.server.Served.{Served}
-use Rattle.map_server.specs.Servers.{IsAsked}
+use Rattle.map_server.specs.Servers.{IsAsked, passes_of}
 use Rattle.map_server.specs.ServerWords.{AsksServer, reader_of}
 use Rattle.map_commands.specs.Shown.{IsShown}
 
@@ -32,9 +32,9 @@ EndsServerWords words NotUtf8 = ⊥
 
 -- ---- opening the map
 
--- a map may not have this number of passes: one for each worker, and one for each member of its team
+-- a map may not have this number of passes
 abbrev pub HasBadPasses : MapdWords → Type 0
-HasBadPasses asked = IsPassCount (asked.workers * (1 + asked.team)) → ⊥
+HasBadPasses asked = IsPassCount (passes_of asked) → ⊥
 
 -- a map may have these numbers of stripes and passes
 abbrev pub CanOpen : MapdWords → Type 0
@@ -49,7 +49,7 @@ IsNotOpened asked opening.NoMemory = CanOpen asked
 -- what is told of it
 abbrev pub TellsOpenFault : OpenFault → Outputs → Outputs → ℕ → Type 0
 TellsOpenFault opening.BadStripes old new status = TellsEnding BadStripes old new status
-TellsOpenFault opening.BadPasses old new status = PrintsRefusal (codes "refused 51 at 0\n") (codes "workers * (1 + team) is more than 64\n") old new status
+TellsOpenFault opening.BadPasses old new status = PrintsRefusal (codes "refused 51 at 0\n") (codes "workers * (1 + team), with --keep and 1, is more than 64\n") old new status
 TellsOpenFault opening.NoMemory old new status = TellsEnding NoMemory old new status
 
 -- ---- serving
@@ -58,8 +58,8 @@ TellsOpenFault opening.NoMemory old new status = TellsEnding NoMemory old new st
 abbrev pub PrintsAll : SinkState → SinkState → List ℕ → Type 0
 PrintsAll old new text = TakesBytes old new text × (new.keeps_back ≡ false)
 
--- what is printed when serving has ended so, and the status: the number of streams, with 3 if an accept failed, else 0; or that
--- memory was refused, with 1
+-- what is printed when serving has ended so, and the status: the number of streams, with 3 if an accept or the last save failed, else
+-- 0; or that memory was refused, with 1
 abbrev pub IsLastLine : Served → List ℕ → ℕ → Type 0
 IsLastLine served text status =
     (IsOk served.crews × (text ≡ codes "served " ++ decimal served.streams ++ codes "\n") × (status ≡ (if served.has_failed then 3 else 0)))
@@ -86,9 +86,24 @@ ServesClients asked old new status =
     ((status ≡ 3) × TakesFront old new (codes "ready\n"))
     ⊎ ((server : Server) × IsAsked asked server × ((served : Served) × ServedBy server served × EndsServing served old new (codes "ready\n") status))
 
--- a port could not be bound; or all were, and clients are served
+-- the line of a refusal with this number
+abbrev pub refusal_line : ℕ → List ℕ
+refusal_line number = codes "refused " ++ decimal number ++ codes " at 0\n"
+
+-- the map could not be restored from its file. Nothing is printed, with 3; or a refusal is, of a program in it or of memory, with 1; or
+-- that can't be
+abbrev pub FailsToRestore : MapdWords → SinkState → SinkState → ℕ → Type 0
+FailsToRestore asked old new status =
+    (is_some asked.keep ≡ true)
+    × (((status ≡ 3) × (new ≡ old))
+    ⊎ (((status ≡ 1) × ((number : ℕ) × PrintsAll old new (refusal_line number)))
+    ⊎ ((status ≡ 3) × ((number : ℕ) × TakesFront old new (refusal_line number)))))
+
+-- a port could not be bound; or all were, but the map was not restored from its file; or it was, or is not kept, and clients are served
 abbrev pub Listens : MapdWords → Outputs → Outputs → ℕ → Type 0
-Listens asked old new status = FailsToListen old new status ⊎ ServesClients asked old.output new.output status
+Listens asked old new status =
+    FailsToListen old new status
+    ⊎ (FailsToRestore asked old.output new.output status ⊎ ServesClients asked old.output new.output status)
 
 -- what a call does: its words ask for no server; or no map is opened; or it listens
 abbrev pub RunsMapd : List (List ℕ) → Outputs → Outputs → ℕ → Type 0

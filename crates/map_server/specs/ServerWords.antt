@@ -13,9 +13,9 @@ use Rattle.map_server.specs.declared.words.MapdWords.{MapdWords}
 use Rattle.map_server.specs.declared.words.WordsFault.{WordsFault}
 use Rattle.map_server.specs.declared.words.WordsFault.TheVariants as fault
 
--- an option that takes an address, and is wanted or not
-abbrev pub address_option : List ℕ → Bool → Rule
-address_option name wanted = record (new_rule name) { long = Some name; value_names = 1; action = Some Set; required = wanted }
+-- an option that takes a text, the address of a port or the path of a file, and is wanted or not
+abbrev pub text_option : List ℕ → Bool → Rule
+text_option name wanted = record (new_rule name) { long = Some name; value_names = 1; action = Some Set; required = wanted }
 
 -- an option that takes a number from 1 to a greatest one
 abbrev pub range_option : List ℕ → ℤ → Rule
@@ -24,8 +24,8 @@ range_option name most = record (size_option name) { parser = Some (Signed (pos 
 -- the address of --listen is wanted or not
 abbrev pub mapd_options : Bool → List Rule
 mapd_options wanted =
-    address_option (codes "listen") wanted
-    ∷ address_option (codes "redis") false
+    text_option (codes "listen") wanted
+    ∷ text_option (codes "redis") false
     ∷ size_option (codes "stripes")
     ∷ range_option (codes "workers") (pos 32)
     ∷ range_option (codes "team") (pos 8)
@@ -33,6 +33,9 @@ mapd_options wanted =
     ∷ range_option (codes "clients") (pos 65535)
     ∷ range_option (codes "idle") (pos 65535)
     ∷ size_option (codes "programs")
+    ∷ text_option (codes "keep") false
+    ∷ range_option (codes "keep-seconds") (pos 3600)
+    ∷ range_option (codes "memory") (pos 65535)
     ∷ []
 
 -- a command without subcommands
@@ -47,7 +50,8 @@ gives_redis words = is_empty (fault_of (mapd false) words) && is_some (first_of 
 abbrev pub reader_of : List (List ℕ) → App
 reader_of words = mapd (not (gives_redis words))
 
--- what the options ask for: each is given, or has its default; the addresses, the number of sessions and the seconds have none
+-- what the options ask for: each is given, or has its default; the addresses, the number of sessions, the idle seconds, the memory and the file
+-- have none
 pub record AsksFor (rows : List Row) (asked : MapdWords) : Type 0 where
   pub listen : option_map string_bytes asked.listen ≡ first_of (codes "listen") rows
   pub redis : option_map string_bytes asked.redis ≡ first_of (codes "redis") rows
@@ -58,12 +62,15 @@ pub record AsksFor (rows : List Row) (asked : MapdWords) : Type 0 where
   pub clients : asked.clients ≡ given_size rows (codes "clients") 1000
   pub idle : asked.idle ≡ option_and_then spelled_size (one_of (codes "idle") rows)
   pub programs : asked.programs ≡ given_size rows (codes "programs") 65536
+  pub memory : asked.memory ≡ option_and_then spelled_size (one_of (codes "memory") rows)
+  pub keep : option_map string_bytes asked.keep ≡ first_of (codes "keep") rows
+  pub keep_seconds : asked.keep_seconds ≡ given_size rows (codes "keep-seconds") 1
 
 -- what the words ask for, of which the first is the program's name: clap finds no fault in them, and they ask for this
 abbrev pub AsksServer : List (List ℕ) → MapdWords → Type 0
 AsksServer words asked = (fault_of (reader_of words) words ≡ []) × AsksFor (matches_of (reader_of words) words) asked
 
--- there is an address, a worker, a thread for each of its walks, and a client; and there are not too many
+-- there is an address, a worker, a thread for each of its walks, a client, and a second between two saves; and there are not too many
 pub record IsInRange (asked : MapdWords) : Type 0 where
   pub some_address : (is_some asked.listen ≡ true) ⊎ (is_some asked.redis ≡ true)
   pub some_worker : 1 ≤ asked.workers
@@ -72,6 +79,8 @@ pub record IsInRange (asked : MapdWords) : Type 0 where
   pub team : asked.team ≤ 8
   pub some_client : 1 ≤ asked.clients
   pub clients : asked.clients ≤ 65535
+  pub some_second : 1 ≤ asked.keep_seconds
+  pub seconds : asked.keep_seconds ≤ 3600
 
 -- the error is of a kind that clap gives these words; want of memory says nothing
 abbrev pub IsWordsFault : List (List ℕ) → WordsFault → Type 0

@@ -1,5 +1,5 @@
 -- What `mapd` serves, as its words ask for it.
-use Rattle.std.specs.Prelude.{◌≡◌, ℕ, List, All, is_some, map, vec_len}
+use Rattle.std.specs.Prelude.{◌≡◌, ℕ, ◌+◌, ◌*◌, List, All, if◌then◌else◌, is_some, map, vec_len}
 use Rattle.stripe_rule.specs.Rule.{from_on}
 use Rattle.bin_stripes.specs.Passes.{stripes_of}
 use Rattle.crews.specs.declared.crew.Crew.{Crew}
@@ -17,6 +17,10 @@ pub record AreAsked (workers team : ℕ) (crews : List Crew) : Type 0 where
 abbrev pub protocols_of : MapdWords → Protocols
 protocols_of asked = record { frames = is_some asked.listen; commands = is_some asked.redis }
 
+-- the map has a pass for each worker, one for each member of its team, and one for its keeper, if it is kept in a file
+abbrev pub passes_of : MapdWords → ℕ
+passes_of asked = asked.workers * (1 + asked.team) + (if is_some asked.keep then 1 else 0)
+
 -- there is a port for each of these protocols, and no other
 pub record HasPorts (protocols : Protocols) (ports : Ports) : Type 0 where
   pub frames : is_some ports.frames ≡ protocols.frames
@@ -24,7 +28,7 @@ pub record HasPorts (protocols : Protocols) (ports : Ports) : Type 0 where
 
 -- the map has the stripes that are asked for; the crews are those that are asked for; each of them may serve as many sessions
 -- as are asked for, within the limits that are; clients speak the protocols of the ports that are, and may load as many scripts
--- as programs
+-- as programs; and the map has a keeper if there is a file
 pub record IsAsked (asked : MapdWords) (server : Server) : Type 0 where
   pub stripes : stripes_of server.map ≡ asked.stripes
   pub crews : AreAsked asked.workers asked.team server.crews.items
@@ -34,3 +38,4 @@ pub record IsAsked (asked : MapdWords) (server : Server) : Type 0 where
   pub idle : server.limits.idle ≡ asked.idle
   pub protocols : server.protocols ≡ protocols_of asked
   pub scripts : server.scripts ≡ asked.programs
+  pub keeper : is_some server.keeper ≡ is_some asked.keep

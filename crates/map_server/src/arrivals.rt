@@ -13,7 +13,7 @@ use std::time::Duration;
 /// How many clients are served at once, and how long one may be silent.
 #[derive(Clone, Copy, Debug, PartialEq, Eq)]
 pub struct Limits {
-    /// So many clients at once, over all workers; one more is told that there is no room.
+    /// How many clients may be there at once, over all workers. One more is told that there is no room.
     pub clients: u64,
     /// The number of seconds after which a client is let go if nothing comes from it, or it takes nothing; none: never.
     pub idle: Option<u64>,
@@ -122,6 +122,11 @@ impl<'a, 'b, H: Wait + Clock, E: Sink> Arrivals<'a, 'b, H, E> {
     /// A client that came leaves.
     pub(crate) fn leaves(&self) {
         self.here.fetch_sub(1, Ordering::SeqCst);
+    }
+
+    /// Writes the text to standard error.
+    pub(crate) fn tell(&self, text: &[u8]) {
+        self.errors.lock(self.rt).tell(text);
     }
 
     /// An accept failed for good, which ends the worker.

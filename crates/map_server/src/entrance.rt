@@ -1,6 +1,6 @@
 //! What the workers share: the ports, and what is counted and told of those who come.
 
-use crate::arrivals::{Arrivals, Limits, Then};
+use crate::arrivals::{Arrivals, Then};
 use crate::connection::Connection;
 use crate::patience::{Patience, is_of_descriptors};
 use crate::ports::Ports;
@@ -9,7 +9,8 @@ use crate::telling::Telling;
 use crate::wall_clock::WallClock;
 use crews::Protocol;
 use devices::Sink;
-use std::alloc::Global;
+use mio::Waker;
+use server_state::ServerState;
 use std::io::{self, ErrorKind};
 use std::os::fd::{AsFd, OwnedFd};
 use std::rt::Clock;
@@ -40,13 +41,24 @@ pub(crate) enum Arrival {
     Never,
 }
 
+/// The ports, which every worker watches, and what ends the waits of all of them.
+#[derive(Drop)]
+pub(crate) struct Gates {
+    pub(crate) ports: Ports,
+    /// One for each worker, if the server may be told to end.
+    pub(crate) wakers: Vec<Waker>,
+}
+
 /// The ports, which every worker watches; what is counted and told of clients, whichever port they came to; the time of day; how many
-/// sessions the workers may begin; and a descriptor in reserve, so that one client more than there are descriptors for can be told.
+/// sessions the workers may begin; what all threads know of the server; and a descriptor in reserve, so that one client more than there
+/// are descriptors for can be told.
 #[derive(Drop)]
 pub(crate) struct Entrance<'a, 'b, H: Wait + Clock, E: Sink> {
     pub(crate) arrivals: Arrivals<'a, 'b, H, E>,
     pub(crate) ports: Ports,
     pub(crate) wall_clock: WallClock<'a, H>,
+    pub(crate) state: &'a ServerState,
+    wakers: Vec<Waker>,
     quotas: Quotas,
     spare: Mutex<Option<OwnedFd>>,
 }
@@ -57,22 +69,32 @@ fn spare_of(ports: &Ports) -> Option<OwnedFd> {
 }
 
 impl<'a, 'b, H: Wait + Clock, E: Sink> Entrance<'a, 'b, H, E> {
-    /// The entrance by these ports, for the workers of these quotas, within these limits.
+    /// The entrance by these ports, for the workers of these quotas, of those who are counted and told of.
     pub(crate) fn new(
-        rt: &'a H,
-        alloc: Global,
-        ports: Ports,
+        arrivals: Arrivals<'a, 'b, H, E>,
+        state: &'a ServerState,
+        gates: Gates,
         quotas: Quotas,
-        limits: Limits,
-        errors: Telling<'b, E>,
     ) -> Entrance<'a, 'b, H, E> {
+        let Gates { ports, wakers } = gates;
         let spare = Mutex::new(spare_of(&ports));
+        let wall_clock = WallClock::new(arrivals.rt);
         Entrance {
-            arrivals: Arrivals::new(rt, alloc, limits, errors),
+            arrivals,
             ports,
-            wall_clock: WallClock::new(rt),
+            wall_clock,
+            state,
+            wakers,
             quotas,
             spare,
+        }
+    }
+
+    /// Ends the waits of all workers.
+    pub(crate) fn wake_all(&self) {
+        for waker in self.wakers.iter() {
+            // If the system refuses it, that worker ends when something else ends its wait.
+            let _ = waker.wake();
         }
     }
 
@@ -118,7 +140,10 @@ impl<'a, 'b, H: Wait + Clock, E: Sink> Entrance<'a, 'b, H, E> {
 
     /// A client came. It is counted, if there is room for it.
     fn received(&self, look: Look, connection: Connection) -> Arrival {
+        let counts = self.state.counts_of(look.worker);
+        counts.count_client();
         if !self.arrivals.comes() {
+            counts.count_refused_client();
             connection.refuse(look.protocol);
             return Arrival::Refused(connection);
         }
@@ -136,7 +161,7 @@ impl<'a, 'b, H: Wait + Clock, E: Sink> Entrance<'a, 'b, H, E> {
         spare: &mut Option<OwnedFd>,
     ) -> Arrival {
         if is_of_descriptors(error)
-            && let Some(arrival) = self.refuse_one(look.protocol, error, spare)
+            && let Some(arrival) = self.refuse_one(look, error, spare)
         {
             return arrival;
         }
@@ -150,19 +175,22 @@ impl<'a, 'b, H: Wait + Clock, E: Sink> Entrance<'a, 'b, H, E> {
         }
     }
 
-    /// Takes the descriptor in reserve to tell one client of this protocol that there is none for it, and closes its connection. None
-    /// if that can't be done.
+    /// Takes the descriptor in reserve to tell one client of this port that there is none for it, and closes its connection. None if
+    /// that can't be done.
     fn refuse_one(
         &self,
-        protocol: Protocol,
+        look: Look,
         error: &io::Error,
         spare: &mut Option<OwnedFd>,
     ) -> Option<Arrival> {
         let descriptor = spare.take()?;
         drop(descriptor);
-        let arrival = match self.accept(protocol) {
+        let arrival = match self.accept(look.protocol) {
             Ok(connection) => {
-                connection.refuse(protocol);
+                let counts = self.state.counts_of(look.worker);
+                counts.count_client();
+                counts.count_refused_client();
+                connection.refuse(look.protocol);
                 let _ = connection.discard();
                 self.arrivals.tell_refused(error);
                 Some(Arrival::Again)

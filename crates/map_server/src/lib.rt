@@ -13,6 +13,7 @@ mod departures;
 mod door;
 mod doors;
 mod entrance;
+mod keeping;
 mod opening;
 mod patience;
 mod ports;
@@ -43,6 +44,7 @@ pub use map_commands::{
     Command, Ending, HexFault, LINE_BYTES, Line, Refusal, Report, RunTexts, Task, bpfmap_on,
     hex_bytes, parse_words, report_of, tell_unread_words, unit_lines,
 };
+pub use map_keeper::{HostFiles, KeepFault, KeptFile, OnDisk, Opener};
 pub use ports::Ports;
 pub use program::mapd_on;
 pub use quotas::Quotas;

@@ -1,8 +1,9 @@
 //! Opening what `mapd` serves: a map, its programs, and the crews of its workers.
-ghost use Rattle.std.specs.Prelude.{◌≡◌, ◌+◌, ◌*◌, ◌≤◌, All, IfOk, IfErr, vec_len};
+ghost use Rattle.std.specs.Prelude.{◌≡◌, ◌+◌, ◌*◌, ◌≤◌, All, IfOk, IfErr, if◌then◌else◌, is_some, vec_len};
+ghost use Rattle.std.specs.Option.{ForSome};
 ghost use Rattle.crews.specs.Crews.{IsCrewOf};
 ghost use Rattle.bin_stripes.specs.Passes.{stripes_of};
-ghost use Rattle.map_server.specs.Servers.{AreAsked, IsAsked};
+ghost use Rattle.map_server.specs.Servers.{AreAsked, IsAsked, passes_of};
 ghost use Rattle.map_server.specs.ServerRuns.{CanOpen, IsNotOpened};
 ghost use Rattle.map_server.specs.ServerWords.{IsInRange};
 
@@ -68,6 +69,26 @@ fn crews_of(
     Ok(crews)
 }
 
+/// The pass of the map's keeper, if it is kept: the last of the passes.
+fn keeper_of(map: &StripedMap, is_kept: bool, passes: &mut Vec<Pass>) -> Option<Pass>
+    requires serve { All (λ pass. pass.map ≡ map.now) passes.old.items }
+    requires some { 1 ≤ vec_len passes.old }
+    ensures some { is_some result ≡ is_kept }
+    ensures keeper { ForSome result (λ pass. pass.map ≡ map.now) }
+    ensures serve { All (λ pass. pass.map ≡ map.now) passes.new.items }
+    ensures left { vec_len passes.new + (if is_kept then 1 else 0) ≡ vec_len passes.old }
+{
+    // For the proof alone: the clauses name the map.
+    let _ = map;
+    if !is_kept {
+        return None;
+    }
+    let Some(pass) = passes.pop() else {
+        unreachable!()
+    };
+    Some(pass)
+}
+
 /// The server of this map, with no program yet.
 fn server_of(
     alloc: Global,
@@ -77,10 +98,12 @@ fn server_of(
 ) -> Result<Server, NoMemory>
     requires range { IsInRange asked.now }
     requires serve { All (λ pass. pass.map ≡ map) passes.items }
-    requires passes { asked.now.workers * (1 + asked.now.team) ≤ vec_len passes }
+    requires passes { passes_of asked.now ≤ vec_len passes }
     requires stripes { stripes_of map ≡ asked.now.stripes }
     ensures { IfOk result (λ server. IsAsked asked.now server) }
 {
+    let mut passes = passes;
+    let keeper = keeper_of(&map, asked.keep.is_some(), &mut passes);
     let registry = Registry::bounded(alloc, asked.programs as usize)?;
     let crews = crews_of(
         alloc,
@@ -102,6 +125,7 @@ fn server_of(
         limits,
         protocols: asked.protocols(),
         scripts: asked.programs,
+        keeper,
     })
 }
 
@@ -112,7 +136,12 @@ pub fn open_server(alloc: Global, asked: &MapdWords, seed: Seed) -> Result<Serve
     ensures asked { IfOk result (λ server. IsAsked asked.now server) }
     ensures err { IfErr result (λ fault. IsNotOpened asked.now fault) }
 {
-    let passes = asked.workers * (1 + asked.team);
-    let (map, passes) = StripedMap::open_seeded(alloc, asked.stripes, passes, seed)?;
+    let (map, passes) = StripedMap::open_with(
+        alloc,
+        asked.stripes,
+        asked.passes(),
+        seed,
+        asked.budget(),
+    )?;
     Ok(server_of(alloc, asked, map, passes)?)
 }

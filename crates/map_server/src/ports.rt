@@ -18,6 +18,9 @@ pub(crate) const FRAMES_PORT: Token = Token(usize::MAX >> 1);
 /// The token of the port whose clients speak commands.
 pub(crate) const COMMANDS_PORT: Token = Token((usize::MAX >> 1) - 1);
 
+/// The token by which another worker ends a wait of a poll.
+pub(crate) const WAKE: Token = Token((usize::MAX >> 1) - 2);
+
 /// The listeners of the ports, by what their clients speak.
 #[derive(Drop)]
 pub struct Ports {

@@ -50,12 +50,12 @@ fn crews_of<P: Drop>(posts: Vec<Post<P>>, mut crews: Vec<Crew>) -> Vec<Crew>
     crews
 }
 
-/// Has each crew attend clients that come in by this entrance, until they are over, by scripts that all share. Gives the crews back
-/// in their order. `NoMemory` if a request for memory was refused.
+/// Has each crew attend clients that come in by this entrance, until they are over, by scripts that all share. Gives the crews back in
+/// their order. `NoMemory` if a request for memory was refused.
 pub(crate) fn attend_all<'a, 'r, H: Threads + Wait + Clock + Sync, E: Sink + Send>(
     worker: &Worker<'a, H, OpenGate>,
     scripts: &'a Scripts<'r>,
-    entrance: &Entrance<'_, '_, H, E>,
+    entrance: &Entrance<'a, '_, H, E>,
     crews: Vec<Crew>,
     polls: Vec<Poll>,
 ) -> Result<Vec<Crew>, NoMemory>
@@ -66,6 +66,6 @@ pub(crate) fn attend_all<'a, 'r, H: Threads + Wait + Clock + Sync, E: Sink + Sen
 {
     let back = Vec::with_capacity(worker.alloc, crews.len())?;
     let posts = posts_of(worker.alloc, entrance, crews, polls)?;
-    let attended = attend_each(worker, scripts, posts)?;
+    let attended = attend_each(worker, scripts, entrance.state, posts)?;
     Ok(crews_of(attended, back))
 }

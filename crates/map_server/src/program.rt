@@ -1,17 +1,18 @@
 //! The program `mapd`, over two devices and the network: it does what the words ask for, prints, and gives the status.
-ghost use Rattle.std.specs.Prelude.{◌≡◌, ◌++◌, [], ℕ, List, codes, decimal, IfOk, OnOk, OnErr, vec_len};
+ghost use Rattle.std.specs.Prelude.{◌≡◌, ◌⊎◌, ◌++◌, [], ℕ, true, List, codes, decimal, is_some, IfOk, OnOk, OnErr, vec_len};
 ghost use Rattle.clap.specs.Walk.{texts};
 ghost use Rattle.clap.specs.Words.{fault_of, HasKind};
 ghost use Rattle.devices.specs.Devices.{CanWrite, TakesFront, TakesIfItCan};
 ghost use Rattle.map_commands.specs.Endings.{outputs};
 ghost use Rattle.map_server.specs.Servers.{HasPorts, IsAsked};
-ghost use Rattle.map_server.specs.ServerRuns.{EndsServerWords, EndsServing, IsLastLine, Listens, PrintsAll, RunsMapd, ServesClients, TellsOpenFault};
+ghost use Rattle.map_server.specs.ServerRuns.{EndsServerWords, EndsServing, FailsToRestore, IsLastLine, Listens, PrintsAll, RunsMapd, ServesClients, TellsOpenFault, refusal_line};
 ghost use Rattle.map_server.specs.ServerWords.{reader_of, IsWordsFault};
 
+use crate::keeping::{Host, restored, tell_fault_of_file};
 use crate::opening::open_server;
 use crate::ports::ListenFault;
 use crate::server::{Served, Server};
-use crate::tcp::{Bound, bind, serve_ports};
+use crate::tcp::{Bound, Ready, bind, serve_ports};
 use crate::telling::Telling;
 use crate::threads::tell_running;
 use crate::words::{MapdWords, WordsFault, mapd_words};
@@ -24,6 +25,8 @@ use itoa::Buffer;
 use map_commands::{
     Ending, FAILED_DEVICE, Line, REFUSED, append, refuse, text_line, told_error, warn,
 };
+use map_keeper::{Opener, RestoreFault, Shared};
+use redis_scripts::Scripts;
 use std::alloc::{AllocError, Global};
 use std::net::Net;
 use std::random::RandomSource;
@@ -41,7 +44,7 @@ fn tell_fault<W: Sink, E: Sink>(fault: OpenFault, writer: &mut W, errors: &mut E
     match fault {
         OpenFault::BadStripes => Ending::BadStripes.tell(writer, errors),
         OpenFault::BadPasses => {
-            let meaning = b"workers * (1 + team) is more than 64\n";
+            let meaning = b"workers * (1 + team), with --keep and 1, is more than 64\n";
             refuse(b"refused 51 at 0\n", meaning, writer, errors)
         }
         OpenFault::NoMemory => Ending::NoMemory.tell(writer, errors),
@@ -146,10 +149,45 @@ fn tell_failed_write<E: Sink>(errors: &mut Telling<'_, E>) -> u8
     FAILED_DEVICE
 }
 
-/// Tells the addresses that were bound, prints `ready`, serves clients until each worker has ended, and answers the status.
-fn serve_bound<H: Threads + Wait + Clock + Sync, W: Sink, E: Sink + Send>(
-    rt: &H,
+/// Prints the line of a refusal with this number, and answers the status.
+fn print_refusal<W: Sink, E: Sink>(number: u8, writer: &mut W, errors: &mut Telling<'_, E>) -> u8
+    requires { CanWrite (W.state writer.old) }
+    ensures { ((result ≡ 1) × PrintsAll (W.state writer.old) (W.state writer.new) (refusal_line number))
+        ⊎ ((result ≡ 3) × TakesFront (W.state writer.old) (W.state writer.new) (refusal_line number)) }
+{
+    let mut line = Line::new();
+    append(&mut line, b"refused ");
+    append(&mut line, Buffer::new().format(number).as_bytes());
+    append(&mut line, b" at 0\n");
+    match print_at_once(writer, line.as_slice()) {
+        Ok(()) => REFUSED,
+        Err(Failed) => tell_failed_write(errors),
+    }
+}
+
+/// Tells why the map is not restored from its file, and answers the status.
+fn tell_not_restored<W: Sink, E: Sink>(
     alloc: Global,
+    asked: &MapdWords,
+    fault: &RestoreFault,
+    writer: &mut W,
+    errors: &mut Telling<'_, E>,
+) -> u8
+    requires writes { CanWrite (W.state writer.old) }
+    requires kept { is_some asked.now.keep ≡ true }
+    ensures { FailsToRestore asked.now (W.state writer.old) (W.state writer.new) result }
+{
+    tell_fault_of_file(alloc, asked, fault, errors);
+    match fault.refusal() {
+        None => FAILED_DEVICE,
+        Some(number) => print_refusal(number, writer, errors),
+    }
+}
+
+/// Tells the addresses that were bound, restores the map if it is kept, prints `ready`, serves clients until each worker has ended, and
+/// answers the status.
+fn serve_bound<H: Threads + Wait + Clock + Sync, K: Opener, W: Sink, E: Sink + Send>(
+    host: &Host<'_, H, K>,
     asked: &MapdWords,
     bound: (Bound, Server),
     writer: &mut W,
@@ -159,26 +197,52 @@ fn serve_bound<H: Threads + Wait + Clock + Sync, W: Sink, E: Sink + Send>(
     requires warns { CanWrite (E.state errors.old) }
     requires asked { IsAsked asked.now bound.1 }
     requires polls { vec_len bound.0.polls ≡ vec_len bound.1.crews }
-    requires ports { HasPorts bound.1.protocols bound.0.ports }
-    ensures { ServesClients asked.now (W.state writer.old) (W.state writer.new) result }
+    requires ports { HasPorts bound.1.protocols bound.0.gates.ports }
+    ensures { FailsToRestore asked.now (W.state writer.old) (W.state writer.new) result
+        ⊎ ServesClients asked.now (W.state writer.old) (W.state writer.new) result }
 {
-    // For the proof alone: the clauses name what is asked for.
-    let _ = asked;
     let (bound, server) = bound;
     let mut telling = Telling::new(errors);
     telling.tell(bound.lines.as_bytes());
-    tell_running(rt, alloc, server.crews.len() as u64, &mut telling);
+    let workers = server.crews.len() as u64;
+    tell_running(
+        host.rt,
+        host.alloc,
+        workers,
+        server.keeper.is_some(),
+        &mut telling,
+    );
+    let Server {
+        map,
+        registry,
+        crews,
+        quotas,
+        limits,
+        scripts,
+        keeper,
+        ..
+    } = server;
+    let scripts = Scripts::bounded(host.alloc, &registry, scripts as usize);
+    let shared = Shared {
+        map: &map,
+        registry: &registry,
+        scripts: &scripts,
+    };
+    let kept = match restored(host, asked, keeper, &shared, &mut telling) {
+        Ok(kept) => kept,
+        Err(fault) => return tell_not_restored(host.alloc, asked, &fault, writer, &mut telling),
+    };
     if let Err(Failed) = print_at_once(writer, b"ready\n") {
         return tell_failed_write(&mut telling);
     }
-    let (served, mut telling) = serve_ports(rt, alloc, bound, server, telling);
+    let ready = Ready::new(bound, crews, quotas, limits);
+    let (served, mut telling) = serve_ports(host.rt, host.alloc, ready, &shared, kept, telling);
     finish(&served, writer, &mut telling)
 }
 
 /// Listens and serves, and answers the status.
-fn listen<H: Threads + Wait + Clock + Net + Sync, W: Sink, E: Sink + Send>(
-    rt: &H,
-    alloc: Global,
+fn listen<H: Threads + Wait + Clock + Net + Sync, K: Opener, W: Sink, E: Sink + Send>(
+    host: &Host<'_, H, K>,
     asked: &MapdWords,
     server: Server,
     writer: &mut W,
@@ -190,9 +254,9 @@ fn listen<H: Threads + Wait + Clock + Net + Sync, W: Sink, E: Sink + Send>(
     ensures { Listens asked.now (outputs (W.state writer.old) (E.state errors.old))
         (outputs (W.state writer.new) (E.state errors.new)) result }
 {
-    match bind(rt, alloc, asked, server.crews.len()) {
-        Ok(bound) => serve_bound(rt, alloc, asked, (bound, server), writer, errors),
-        Err(fault) => tell_failed_listen(alloc, &fault, errors),
+    match bind(host.rt, host.alloc, asked, server.crews.len()) {
+        Ok(bound) => serve_bound(host, asked, (bound, server), writer, errors),
+        Err(fault) => tell_failed_listen(host.alloc, &fault, errors),
     }
 }
 
@@ -218,14 +282,14 @@ fn drawn_seed<R: RandomSource>(rt: &R) -> Seed {
 
 /// Does what the words ask for (the first is the program's name), and returns the status: 0 if it served as many sessions
 /// as it was asked for, 1 for a refusal, 2 for a fault of the words, which standard error is told in clap's text, and 3 for
-/// a failed listen, accept or write, which it is told in a line. Waits for clients.
-pub fn mapd_on<H: Threads + Wait + Clock + RandomSource + Net + Sync, W: Sink, E: Sink + Send>(
-    rt: &H,
-    alloc: Global,
-    words: &[&str],
-    writer: &mut W,
-    errors: &mut E,
-) -> u8
+/// a failed listen, accept, write or last save, or a file that can't be used, which it is told in a line. The file in which the map is
+/// kept, if it is, is one of these. Waits for clients.
+pub fn mapd_on<
+    H: Threads + Wait + Clock + RandomSource + Net + Sync,
+    K: Opener,
+    W: Sink,
+    E: Sink + Send,
+>(rt: &H, alloc: Global, files: &K, words: &[&str], writer: &mut W, errors: &mut E) -> u8
     requires writes { CanWrite (W.state writer.old) }
     requires warns { CanWrite (E.state errors.old) }
     ensures runs { RunsMapd (texts words.now) (outputs (W.state writer.old) (E.state errors.old))
@@ -235,8 +299,9 @@ pub fn mapd_on<H: Threads + Wait + Clock + RandomSource + Net + Sync, W: Sink, E
         Ok(asked) => asked,
         Err(fault) => return ending_of_fault(alloc, &fault, words).tell(writer, errors),
     };
+    let host = Host { rt, alloc, files };
     match open_server(alloc, &asked, drawn_seed(rt)) {
-        Ok(server) => listen(rt, alloc, &asked, server, writer, errors),
+        Ok(server) => listen(&host, &asked, server, writer, errors),
         Err(fault) => tell_fault(fault, writer, errors),
     }
 }

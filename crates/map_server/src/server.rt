@@ -1,10 +1,11 @@
 //! What `mapd` serves, and how serving ended.
-ghost use Rattle.std.specs.Prelude.{All};
+ghost use Rattle.std.specs.Prelude.{◌≡◌, All};
+ghost use Rattle.std.specs.Option.{ForSome};
 ghost use Rattle.crews.specs.Crews.{IsCrewOf};
 
 use crate::arrivals::Limits;
 use crate::quotas::Quotas;
-use bin_stripes::StripedMap;
+use bin_stripes::{Pass, StripedMap};
 use bpf_model::NoMemory;
 use crews::Crew;
 use program_registry::Registry;
@@ -29,7 +30,10 @@ pub struct Server {
     pub protocols: Protocols,
     /// How many scripts clients of commands may load.
     pub scripts: u64,
+    /// The pass by which the map is kept in a file; none: it is not kept.
+    pub keeper: Option<Pass>,
     ghost serve: { All (λ crew. IsCrewOf map crew) crews.items },
+    ghost keeps: { ForSome keeper (λ pass. pass.map ≡ map) },
 }
 
 /// How serving ended.
@@ -39,6 +43,6 @@ pub struct Served {
     pub crews: Result<Vec<Crew>, NoMemory>,
     /// How many clients were handed out.
     pub streams: u64,
-    /// An accept failed.
+    /// An accept failed, or the last save of the map.
     pub has_failed: bool,
 }

@@ -1,32 +1,52 @@
 //! The ports that `mapd` listens on, and their clients.
-ghost use Rattle.std.specs.Prelude.{◌≡◌, IfOk, All, vec_len};
+ghost use Rattle.std.specs.Prelude.{◌≡◌, IfOk, IfSome, IsErr, IsSomeAnd, All, vec_len};
 ghost use Rattle.crews.specs.Crews.{AllCarrySame, IsCrewOf};
+ghost use Rattle.map_keeper.specs.Keepers.{pass_of};
 ghost use Rattle.map_server.specs.Servers.{HasPorts, protocols_of};
 
-use crate::entrance::Entrance;
-use crate::ports::{ListenFault, Ports};
+use crate::arrivals::{Arrivals, Limits};
+use crate::entrance::{Entrance, Gates};
+use crate::keeping::{Bell, Kept, Saver};
+use crate::ports::{ListenFault, Ports, WAKE};
 use crate::posts::attend_all;
-use crate::server::{Served, Server};
+use crate::quotas::Quotas;
+use crate::server::Served;
 use crate::telling::Telling;
+use crate::wall_clock::WallClock;
 use crate::words::MapdWords;
 use bin_stripes::OpenGate;
-use crews::Worker;
+use bpf_model::NoMemory;
+use crews::{Crew, Worker};
 use devices::Sink;
-use mio::Poll;
-use redis_scripts::Scripts;
+use map_keeper::Shared;
+use mio::{Poll, Waker};
+use server_state::ServerState;
 use std::alloc::Global;
 use std::io;
 use std::net::Net;
 use std::rt::Clock;
 use std::sync::Wait;
-use std::thread::Threads;
+use std::thread::{Threads, join};
 
-/// Ports that are bound, the polls that watch them, one for each worker, and the lines that tell their addresses.
+/// Ports that are bound, the polls that watch them, one for each worker, what ends their waits, and the lines that tell the ports'
+/// addresses.
 #[derive(Drop)]
 pub(crate) struct Bound {
-    pub(crate) ports: Ports,
+    pub(crate) gates: Gates,
     pub(crate) polls: Vec<Poll>,
     pub(crate) lines: String,
+}
+
+/// What ends the waits of these polls, if the server may be told to end: clients of commands can tell it.
+fn wakers_of(alloc: Global, ports: &Ports, polls: &[Poll]) -> io::Result<Vec<Waker>> {
+    let mut wakers = Vec::new(alloc);
+    if ports.commands.is_none() {
+        return Ok(wakers);
+    }
+    for poll in polls {
+        wakers.push(Waker::new(poll.registry(), WAKE)?)?;
+    }
+    Ok(wakers)
 }
 
 /// Polls of this number of workers, which watch the ports.
@@ -48,55 +68,156 @@ pub(crate) fn bind<'a, H: Net>(
     workers: usize,
 ) -> Result<Bound, ListenFault<'a>>
     ensures polls { IfOk result (λ bound. vec_len bound.polls ≡ workers) }
-    ensures ports { IfOk result (λ bound. HasPorts (protocols_of asked.now) bound.ports) }
+    ensures ports { IfOk result (λ bound. HasPorts (protocols_of asked.now) bound.gates.ports) }
 {
     let ports = Ports::bind(rt, asked)?;
     let polls = polls_of(rt, alloc, &ports, workers)?;
+    let wakers = wakers_of(alloc, &ports, &polls)?;
     let lines = ports.lines(alloc)?;
     Ok(Bound {
-        ports,
+        gates: Gates { ports, wakers },
         polls,
         lines,
     })
 }
 
-/// Serves clients of the ports until each worker has ended. Standard error is told what goes wrong meanwhile, and given back.
+/// The crews that serve, each with a poll, and how many sessions they may begin, to how many clients at once.
+#[derive(Drop)]
+pub(crate) struct Ready {
+    pub(crate) crews: Vec<Crew>,
+    pub(crate) polls: Vec<Poll>,
+    pub(crate) gates: Gates,
+    pub(crate) quotas: Quotas,
+    pub(crate) limits: Limits,
+}
+
+impl Ready {
+    /// These crews, at what is bound.
+    pub(crate) fn new(bound: Bound, crews: Vec<Crew>, quotas: Quotas, limits: Limits) -> Ready
+        ensures crews { result.crews ≡ crews }
+        ensures polls { result.polls ≡ bound.polls }
+    {
+        let Bound { gates, polls, .. } = bound;
+        Ready {
+            crews,
+            polls,
+            gates,
+            quotas,
+            limits,
+        }
+    }
+}
+
+/// Serves clients, while a thread of its own keeps the map. If no thread can be made, the map is saved at the end alone. Returns also
+/// whether the last save failed.
+fn attend_and_keep<'a, 'r, H: Threads + Wait + Clock + Sync, E: Sink + Send>(
+    worker: &Worker<'a, H, OpenGate>,
+    shared: &Shared<'a, 'r>,
+    entrance: &Entrance<'a, '_, H, E>,
+    crews: Vec<Crew>,
+    polls: Vec<Poll>,
+    kept: Kept<'_>,
+) -> (Result<Vec<Crew>, NoMemory>, bool)
+    requires crews { All (λ crew. IsCrewOf worker.now.map.now crew) crews.items }
+    requires polls { vec_len polls ≡ vec_len crews }
+    requires kept { (pass_of kept.keeper).map ≡ shared.now.map.now }
+    ensures { IfOk result.0 (λ back.
+        AllCarrySame crews.items back.items × All (λ crew. IsCrewOf worker.now.map.now crew) back.items) }
+{
+    let bell = Bell::new();
+    let bell = &bell;
+    let alloc = worker.alloc;
+    let saving = move || -> bool
+        requires { (pass_of kept.keeper).map ≡ shared.now.map.now }
+    {
+        let saver = Saver {
+            entrance,
+            shared,
+            alloc,
+        };
+        saver.keep(kept, bell)
+    };
+    // For the proof: a closure that moves its captures on can't be known by what it ensures, so it takes them out of this.
+    let mut given = Some((crews, polls));
+    let serving = move || -> Result<Vec<Crew>, NoMemory>
+        requires { IsSomeAnd given (λ given. All (λ crew. IsCrewOf worker.now.map.now crew) given.0.items × (vec_len given.1 ≡ vec_len given.0)) }
+        ensures { IfOk result (λ back. IfSome given.entry (λ given.
+            AllCarrySame given.0.items back.items × All (λ crew. IsCrewOf worker.entry.now.map.now crew) back.items)) }
+    {
+        let Some((crews, polls)) = given.take() else {
+            unreachable!()
+        };
+        let back = attend_all(worker, shared.scripts, entrance, crews, polls);
+        bell.ring();
+        back
+    };
+    let (has_failed, crews) = join(worker.rt, saving, serving);
+    (crews, has_failed)
+}
+
+/// Nobody was served: memory was refused.
+fn nobody_served() -> Served
+    ensures { IsErr result.crews }
+{
+    Served {
+        crews: Err(NoMemory),
+        streams: 0,
+        has_failed: false,
+    }
+}
+
+/// Serves clients of the ports until each worker has ended, and keeps the map meanwhile, if it is kept. Standard error is told what goes
+/// wrong meanwhile, and given back.
 pub(crate) fn serve_ports<'a, H: Threads + Wait + Clock + Sync, E: Sink + Send>(
     rt: &H,
     alloc: Global,
-    bound: Bound,
-    server: Server,
+    ready: Ready,
+    shared: &Shared<'_, '_>,
+    kept: Option<Kept<'_>>,
     errors: Telling<'a, E>,
 ) -> (Served, Telling<'a, E>)
-    requires polls { vec_len bound.polls ≡ vec_len server.crews }
-    requires ports { HasPorts server.protocols bound.ports }
+    requires crews { All (λ crew. IsCrewOf shared.now.map.now crew) ready.crews.items }
+    requires polls { vec_len ready.polls ≡ vec_len ready.crews }
+    requires kept { IfSome kept (λ kept. (pass_of kept.keeper).map ≡ shared.now.map.now) }
     ensures { IfOk result.0.crews (λ back.
-        AllCarrySame server.crews.items back.items × All (λ crew. IsCrewOf server.map crew) back.items) }
+        AllCarrySame ready.crews.items back.items × All (λ crew. IsCrewOf shared.now.map.now crew) back.items) }
 {
-    let Server {
-        map,
-        registry,
+    let began = WallClock::new(rt).look();
+    let workers = ready.crews.len() as u64;
+    let Ok(state) = ServerState::new(alloc, workers, kept.is_some(), began) else {
+        return (nobody_served(), errors);
+    };
+    let Ready {
         crews,
+        polls,
+        gates,
         quotas,
         limits,
-        scripts,
-        ..
-    } = server;
-    let Bound { ports, polls, .. } = bound;
-    let entrance = Entrance::new(rt, alloc, ports, quotas, limits, errors);
-    let scripts = Scripts::bounded(alloc, &registry, scripts as usize);
+    } = ready;
+    let entrance = Entrance::new(
+        Arrivals::new(rt, alloc, limits, errors),
+        &state,
+        gates,
+        quotas,
+    );
     let worker = Worker {
         rt,
         alloc,
         gate: &OpenGate,
-        map: &map,
-        registry: &registry,
+        map: shared.map,
+        registry: shared.registry,
     };
-    let crews = attend_all(&worker, &scripts, &entrance, crews, polls);
+    let (crews, has_failed) = match kept {
+        None => (
+            attend_all(&worker, shared.scripts, &entrance, crews, polls),
+            false,
+        ),
+        Some(kept) => attend_and_keep(&worker, shared, &entrance, crews, polls, kept),
+    };
     let served = Served {
         crews,
         streams: entrance.arrivals.streams(),
-        has_failed: entrance.arrivals.has_failed(),
+        has_failed: has_failed || entrance.arrivals.has_failed(),
     };
     (served, entrance.into_telling())
 }

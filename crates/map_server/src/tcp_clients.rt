@@ -5,7 +5,7 @@ use crate::departures::{Departures, is_departure};
 use crate::door::sooner;
 use crate::doors::Doors;
 use crate::entrance::{Arrival, Entrance, Look};
-use crate::ports::{COMMANDS_PORT, FRAMES_PORT};
+use crate::ports::{COMMANDS_PORT, FRAMES_PORT, WAKE};
 use crate::seats::{Seats, Stirring};
 use crate::stopwatch::Stopwatch;
 use crate::sweeps::Sweeps;
@@ -151,6 +151,15 @@ impl<'a, 'b, 'c, H: Wait + Clock, E: Sink> TcpClients<'a, 'b, 'c, H, E> {
         Some(event)
     }
 
+    /// The server is to end. If so, no other worker waits any longer.
+    fn is_ending(&self) -> bool {
+        let is_ending = self.entrance.state.is_ending();
+        if is_ending {
+            self.entrance.wake_all();
+        }
+        is_ending
+    }
+
     /// No client is there, and none will come.
     fn is_over(&self) -> bool {
         self.doors.are_shut() && self.clients == 0 && self.departures.is_empty()
@@ -192,7 +201,7 @@ impl<'a, 'b, 'c, H: Wait + Clock, E: Sink> TcpClients<'a, 'b, 'c, H, E> {
                 self.doors.door(Protocol::Commands).knock();
             } else if is_departure(token.0) {
                 self.departures.hear(token.0);
-            } else {
+            } else if token != WAKE {
                 let stirring = Stirring {
                     is_writable: event.is_writable(),
                     is_ending: event.is_read_closed(),
@@ -234,6 +243,9 @@ impl<'a, 'b, 'c, H: Wait + Clock, E: Sink> Clients<Connection> for TcpClients<'a
     fn next(&mut self, _pass: &Pass, sweep: NextSweep) -> Event<Connection> {
         self.sweeps.want(sweep);
         for _ in 0..u64::MAX {
+            if self.is_ending() {
+                return Event::Over;
+            }
             if let Some(event) = self.event_at_hand() {
                 return event;
             }
@@ -281,6 +293,7 @@ impl<'a, 'b, 'c, H: Wait + Clock, E: Sink> Clients<Connection> for TcpClients<'a
         }
         self.clients = self.clients.saturating_sub(1);
         self.entrance.arrivals.leaves();
+        self.entrance.state.counts_of(self.worker).count_leaving();
         if is_heard_out(parting) {
             self.departures
                 .add(self.poll.registry(), channel, self.stopwatch.now());

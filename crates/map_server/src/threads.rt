@@ -26,14 +26,23 @@ fn threads_made<H: Threads + Wait + Sync>(rt: &H, wanted: u64) -> u64 {
     })
 }
 
-/// How many of the workers can run at once: one takes the calling thread if no further one can be made.
-fn running_workers<H: Threads + Wait + Sync>(rt: &H, workers: u64) -> u64
+/// How many of the workers can run at once beside this number of other threads: one takes the calling thread if no further one can be
+/// made.
+fn running_workers<H: Threads + Wait + Sync>(rt: &H, workers: u64, others: u64) -> u64
     ensures { result ≤ workers }
 {
     if workers < 2 {
         return workers;
     }
-    threads_made(rt, workers).saturating_add(1).min(workers)
+    let made = threads_made(rt, workers.saturating_add(others));
+    made.saturating_sub(others).saturating_add(1).min(workers)
+}
+
+/// Tells standard error if no thread can be made that saves the map while clients are served.
+pub(crate) fn tell_saving<H: Threads + Wait + Sync, E: Sink>(rt: &H, errors: &mut Telling<'_, E>) {
+    if threads_made(rt, 1) == 0 {
+        errors.tell(b"the map is saved at the end alone: no further thread could be made\n");
+    }
 }
 
 /// The line that tells how many workers run.
@@ -41,14 +50,19 @@ fn running_line(alloc: Global, running: u64, workers: u64) -> Result<String, All
     format!(in alloc; "{running} of {workers} workers run: no further thread could be made\n")
 }
 
-/// Tells standard error if not all of the workers can run at once. The others begin when one has ended.
-pub fn tell_running<H: Threads + Wait + Sync, E: Sink>(
+/// Tells standard error if not all of the workers can run at once, beside a thread that saves the map, if it is kept. The others begin
+/// when one has ended.
+pub(crate) fn tell_running<H: Threads + Wait + Sync, E: Sink>(
     rt: &H,
     alloc: Global,
     workers: u64,
+    is_kept: bool,
     errors: &mut Telling<'_, E>,
 ) {
-    let running = running_workers(rt, workers);
+    if is_kept {
+        tell_saving(rt, errors);
+    }
+    let running = running_workers(rt, workers, u64::from(is_kept));
     if running == workers {
         return;
     }

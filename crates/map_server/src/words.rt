@@ -3,8 +3,8 @@ ghost use Rattle.std.specs.Prelude.{◌≡◌, true, false, Some, IfOk, IfErr, c
 ghost use Rattle.clap.specs.Words.{app_of, fault_of, first_of, found_of, one_of, rows_of, rule_of, HasKind};
 ghost use Rattle.clap.specs.Walk.{texts};
 ghost use Rattle.map_commands.specs.CommandLine.{size_option, spelled_size};
-ghost use Rattle.map_server.specs.Servers.{protocols_of};
-ghost use Rattle.map_server.specs.ServerWords.{address_option, gives_redis, mapd, reader_of, AsksFor, AsksServer, IsFaultOf, IsInRange, IsWordsFault};
+ghost use Rattle.map_server.specs.Servers.{passes_of, protocols_of};
+ghost use Rattle.map_server.specs.ServerWords.{text_option, gives_redis, mapd, reader_of, AsksFor, AsksServer, IsFaultOf, IsInRange, IsWordsFault};
 
 use crate::server::Protocols;
 use bpf_model::NoMemory;
@@ -37,6 +37,12 @@ pub struct MapdWords {
     pub idle: Option<u64>,
     /// How many different programs clients may register, and how many scripts they may load.
     pub programs: u64,
+    /// How many MiB entries and sessions may take; none: there is no bound.
+    pub memory: Option<u64>,
+    /// The file in which entries, programs and scripts are kept; none: nothing is kept.
+    pub keep: Option<String>,
+    /// How many seconds it is from one save to the next.
+    pub keep_seconds: u64,
 }
 
 impl MapdWords {
@@ -47,6 +53,27 @@ impl MapdWords {
         Protocols {
             frames: self.listen.is_some(),
             commands: self.redis.is_some(),
+        }
+    }
+
+    /// How many bytes the rows and the index of all entries may take; none: there is no bound. A fiftieth of the memory, and at least
+    /// 4 MiB, is left to sessions, so that a full server still takes clients.
+    pub(crate) fn budget(&self) -> Option<u64> {
+        let bytes = self.memory?.saturating_mul(MEBIBYTE);
+        Some(bytes.saturating_sub((bytes / SESSIONS_PART).max(SESSIONS_LEAST)))
+    }
+
+    /// How many passes the map has: one for each worker, one for each member of its team, and one that keeps it in a file, if it is
+    /// kept.
+    pub(crate) fn passes(&self) -> u64
+        requires { IsInRange self.now }
+        ensures { result ≡ passes_of self.now }
+    {
+        let served = self.workers * (1 + self.team);
+        if self.keep.is_some() {
+            served + 1
+        } else {
+            served
         }
     }
 }
@@ -108,16 +135,29 @@ const CLIENTS_DEFAULT: u16 = 1000;
 /// The number of different programs, if none is given.
 const PROGRAMS_DEFAULT: u64 = 65_536;
 
+/// The bytes of a MiB.
+const MEBIBYTE: u64 = 1 << 20;
+
+/// One of this many parts of the memory is left to sessions.
+const SESSIONS_PART: u64 = 50;
+
+/// At least this many bytes of the memory are left to sessions.
+const SESSIONS_LEAST: u64 = 4 * MEBIBYTE;
+
+/// The seconds between two saves, if no number is given.
+const KEEP_SECONDS_DEFAULT: u16 = 1;
+
 /// What the options cost.
 const COSTS: &str = "\
 At least one of --listen and --redis is given. Both ports serve one map.
 Each worker serves any number of clients at once, and waits for none of them.
 Threads: one for each worker, and one more if there are several; while a worker walks with a team of several, as
 many more. Passes of the map: workers * (1 + team), at most 64. Descriptors: 4, one a port, one a worker and one a
-client.
+client. With --keep there is one more thread and one more pass, and there are three more descriptors.
+mapd --kept FILE, with no other words, prints what such a file has, and ends.
 Memory: 2 KB for each client, and up to 7 MB for each worker, beside the threads' stacks, answers that are not read
 yet, what walks answer, and the map. A registered program stays.
-Status: 0 all sessions were served, 1 refused, 2 a fault of the words, 3 a failed listen, accept or write.";
+Status: 0 all sessions were served, 1 refused, 2 a fault of the words, 3 a failed listen, accept, write or save.";
 
 /// An option that takes a number in a range, in this unit.
 fn range_option<'a>(
@@ -137,14 +177,20 @@ fn range_option<'a>(
         .value_parser(range)
 }
 
-/// An option that takes an address, and is wanted or not.
-fn address_option<'a>(alloc: Global, name: &'a str, wanted: bool, help: &'a str) -> Arg<'a>
-    ensures rule { rule_of result ≡ address_option name.entry.now wanted }
+/// An option that takes a text of this kind, and is wanted or not.
+fn text_option<'a>(
+    alloc: Global,
+    name: &'a str,
+    kind: &'a str,
+    wanted: bool,
+    help: &'a str,
+) -> Arg<'a>
+    ensures rule { rule_of result ≡ text_option name.entry.now wanted }
     ensures local { result.global ≡ false }
 {
     Arg::new(alloc, name)
         .long(name)
-        .value_name("HOST:PORT")
+        .value_name(kind)
         .help(help)
         .action(ArgAction::Set)
         .required(wanted)
@@ -158,15 +204,17 @@ fn mapd_command<'a>(alloc: Global, wanted: bool) -> Result<clap::Command<'a>, Al
         .about("Serves a map to many clients over TCP")
         .version("0.1.0")
         .after_help(COSTS)
-        .arg(address_option(
+        .arg(text_option(
             alloc,
             "listen",
+            "HOST:PORT",
             wanted,
             "Address to listen on; port 0 takes a free one, which standard error is told",
         ))?
-        .arg(address_option(
+        .arg(text_option(
             alloc,
             "redis",
+            "HOST:PORT",
             false,
             "Address for clients of Redis; if it is given, --listen may be left out",
         ))?
@@ -215,6 +263,27 @@ fn mapd_command<'a>(alloc: Global, wanted: bool) -> Result<clap::Command<'a>, Al
             "programs",
             "NUMBER",
             "Different programs that clients may register, 0 to 65535 [default: 65536]",
+        ))?
+        .arg(text_option(
+            alloc,
+            "keep",
+            "FILE",
+            false,
+            "File that keeps entries, programs and scripts; it is made if there is none [default: none]",
+        ))?
+        .arg(range_option(
+            alloc,
+            "keep-seconds",
+            "SECONDS",
+            value_parser!(u16).range(1..=3600),
+            "Seconds from one save to the next, 1 to 3600, if there is a --keep [default: 1]",
+        ))?
+        .arg(range_option(
+            alloc,
+            "memory",
+            "MIB",
+            value_parser!(u16).range(1..=65535),
+            "MiB of entries and sessions, 1 to 65535; past it a new key is refused with 9 [default: no bound]",
         ))
 }
 
@@ -260,6 +329,9 @@ fn words_of(alloc: Global, matches: &ArgMatches<'_>) -> Result<MapdWords, NoMemo
         clients: u64::from(given_size(matches, "clients", CLIENTS_DEFAULT)),
         idle: widened(given_number(matches, "idle")),
         programs: widened(given_number(matches, "programs")).unwrap_or(PROGRAMS_DEFAULT),
+        memory: widened(given_number(matches, "memory")),
+        keep: given_text(alloc, matches, "keep")?,
+        keep_seconds: u64::from(given_size(matches, "keep-seconds", KEEP_SECONDS_DEFAULT)),
     })
 }
 

@@ -2,7 +2,9 @@
 mod clients;
 
 use crate::bpfmap::memory::{ROOM, Room};
-use map_server::{MapdWords, StreamSink, WordsFault, mapd_on, mapd_words};
+use map_server::{
+    KeepFault, KeptFile, MapdWords, OnDisk, Opener, StreamSink, WordsFault, mapd_on, mapd_words,
+};
 use std::alloc::{AllocError, Global};
 use std::net::{Net, TcpListener, TcpStream};
 use std::random::RandomSource;
@@ -19,6 +21,16 @@ struct Outcome {
     errors: Vec<u8>,
 }
 
+/// There is no file.
+#[derive(Clone, Copy)]
+struct NoFiles;
+
+impl Opener for NoFiles {
+    fn open(&self, _path: &str) -> Result<KeptFile<OnDisk>, KeepFault> {
+        Err(KeepFault::Unreadable)
+    }
+}
+
 /// Makes one call, with this much room in standard output.
 fn call<
     R: AllocGlobal
@@ -32,7 +44,7 @@ fn call<
     let alloc = rt.alloc();
     let mut writer = StreamSink::new(Room::new(alloc, output_room));
     let mut errors = StreamSink::new(Room::new(alloc, ROOM));
-    let status = mapd_on(rt, alloc, words, &mut writer, &mut errors);
+    let status = mapd_on(rt, alloc, &NoFiles, words, &mut writer, &mut errors);
     Outcome {
         status,
         output: writer.into_inner().bytes,
@@ -61,6 +73,9 @@ fn asked(
         clients: 1000,
         idle: None,
         programs: 65_536,
+        memory: None,
+        keep: None,
+        keep_seconds: 1,
     })
 }
 

@@ -7,6 +7,7 @@ use devices::{Channel, Received, Sent};
 use map_server::SessionEnd;
 use program_registry::Registry;
 use redis_scripts::Scripts;
+use server_state::ServerState;
 use std::alloc::Global;
 use std::test::Fail;
 
@@ -107,6 +108,7 @@ fn one_worker_serves_both_protocols(rt: HostRuntime) -> Result<(), Fail> {
     let (map, crew, _) = two_crews(alloc).ok_or("no map")?;
     let registry = Registry::new(alloc)?;
     let scripts = Scripts::new(alloc, &registry);
+    let state = ServerState::new(alloc, 1, false, 0)?;
     let worker = Worker {
         rt: &rt,
         alloc,
@@ -119,7 +121,7 @@ fn one_worker_serves_both_protocols(rt: HostRuntime) -> Result<(), Fail> {
         told: 0,
         served: 0,
     };
-    let _ = attend(&worker, &scripts, &mut clients, crew);
+    let _ = attend(&worker, &scripts, &state, &mut clients, crew);
     assert!(&rt; clients.served == 2, "{} of 2 served", clients.served);
     Ok(())
 }

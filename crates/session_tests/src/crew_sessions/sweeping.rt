@@ -6,6 +6,7 @@ use bpf_model::NoMemory;
 use crews::{Clients, Event, NextSweep, Parting, Protocol, Standing, Worker, attend};
 use program_registry::Registry;
 use redis_scripts::Scripts;
+use server_state::ServerState;
 use std::alloc::Global;
 use std::test::Fail;
 
@@ -78,6 +79,7 @@ fn a_worker_sweeps(rt: HostRuntime) -> Result<(), Fail> {
     let (map, crew, _) = two_crews(alloc).ok_or("no map")?;
     let registry = Registry::new(alloc)?;
     let scripts = Scripts::new(alloc, &registry);
+    let state = ServerState::new(alloc, 1, false, 0)?;
     let worker = Worker {
         rt: &rt,
         alloc,
@@ -93,7 +95,7 @@ fn a_worker_sweeps(rt: HostRuntime) -> Result<(), Fail> {
         after: NextSweep::Now,
         served: 0,
     };
-    let _ = attend(&worker, &scripts, &mut clients, crew);
+    let _ = attend(&worker, &scripts, &state, &mut clients, crew);
     assert!(&rt; clients.served == 2, "{} of 2 served", clients.served);
     assert!(&rt;
         clients.before == NextSweep::At(BEGIN + 5),

@@ -1,8 +1,10 @@
+use Rattle.std.proofs.Common.{◌≤◌, ℕ, subst, vec_len}
 use Rattle.map_server.proofs.ServerRunLemmas.{enough_passes}
 use Rattle.map_server.proofs.opening.open_server.Goals as goal
 
 pub server_of-requires-clause-passes : goal.server_of-requires-clause-passes
-server_of-requires-clause-passes c = enough_passes _ _ _ _ _ c.in_ok-map.ensures.ok c.in_ok-map.passes.ok.0
+server_of-requires-clause-passes c =
+    subst (λ (n : ℕ). n ≤ vec_len c.in_ok-map.passes) c.passes.ensures (enough_passes _ _ _ _ _ c.in_ok-map.ensures.ok c.in_ok-map.passes.ok.0)
 
 pub server_of-requires-clause-stripes : goal.server_of-requires-clause-stripes
 server_of-requires-clause-stripes c = c.in_ok-map.ensures.ok.stripes_are

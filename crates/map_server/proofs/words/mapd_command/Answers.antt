@@ -12,14 +12,17 @@ returns c =
     let about = ap app_of_fields c.about.ensures ∙ c.new.ensures.app in
     let named = ap app_of_fields c.version.ensures ∙ ap (on_top (λ s. record s { has_version = true })) about in
     let bare = ap app_of_fields c.after_help.ensures ∙ named in
-    let listen = c.in_ok-arg.ensures.shape c.address_option.ensures.local ∙ ap₂ with_rule bare c.address_option.ensures.rule in
-    let redis = c.in_ok-arg-2.ensures.shape c.address_option-2.ensures.local ∙ ap₂ with_rule listen c.address_option-2.ensures.rule in
+    let listen = c.in_ok-arg.ensures.shape c.text_option.ensures.local ∙ ap₂ with_rule bare c.text_option.ensures.rule in
+    let redis = c.in_ok-arg-2.ensures.shape c.text_option-2.ensures.local ∙ ap₂ with_rule listen c.text_option-2.ensures.rule in
     let stripes = c.in_ok-arg-3.ensures.shape c.size_option.ensures.local ∙ ap₂ with_rule redis c.size_option.ensures.rule in
     let workers = c.in_ok-arg-4.ensures.shape c.range_option.ensures.local ∙ ap₂ with_rule stripes (c.range_option.ensures.rule ∙ ap (λ p. record (size_option (codes "workers")) { parser = Some p }) (narrowed _ _ _ _ 32 c.value_parser.ensures c.new-2.ensures.start c.new-2.ensures.end refl c.range.ensures)) in
     let team = c.in_ok-arg-5.ensures.shape c.range_option-2.ensures.local ∙ ap₂ with_rule workers (c.range_option-2.ensures.rule ∙ ap (λ p. record (size_option (codes "team")) { parser = Some p }) (narrowed _ _ _ _ 8 c.value_parser-2.ensures c.new-3.ensures.start c.new-3.ensures.end refl c.range-2.ensures)) in
     let sessions = c.in_ok-arg-6.ensures.shape c.size_option-2.ensures.local ∙ ap₂ with_rule team c.size_option-2.ensures.rule in
     let clients = c.in_ok-arg-7.ensures.shape c.range_option-3.ensures.local ∙ ap₂ with_rule sessions (c.range_option-3.ensures.rule ∙ ap (λ p. record (size_option (codes "clients")) { parser = Some p }) (narrowed _ _ _ _ 65535 c.value_parser-3.ensures c.new-4.ensures.start c.new-4.ensures.end refl c.range-3.ensures)) in
     let idle = c.in_ok-arg-8.ensures.shape c.range_option-4.ensures.local ∙ ap₂ with_rule clients (c.range_option-4.ensures.rule ∙ ap (λ p. record (size_option (codes "idle")) { parser = Some p }) (narrowed _ _ _ _ 65535 c.value_parser-4.ensures c.new-5.ensures.start c.new-5.ensures.end refl c.range-4.ensures)) in
-    IfOk-weaker c.arg-9.result _ _
-    (λ r h. h.shape c.size_option-3.ensures.local ∙ ap₂ with_rule idle c.size_option-3.ensures.rule)
-    c.arg-9.ensures
+    let programs = c.in_ok-arg-9.ensures.shape c.size_option-3.ensures.local ∙ ap₂ with_rule idle c.size_option-3.ensures.rule in
+    let keep = c.in_ok-arg-10.ensures.shape c.text_option-3.ensures.local ∙ ap₂ with_rule programs c.text_option-3.ensures.rule in
+    let seconds = c.in_ok-arg-11.ensures.shape c.range_option-5.ensures.local ∙ ap₂ with_rule keep (c.range_option-5.ensures.rule ∙ ap (λ p. record (size_option (codes "keep-seconds")) { parser = Some p }) (narrowed _ _ _ _ 3600 c.value_parser-5.ensures c.new-6.ensures.start c.new-6.ensures.end refl c.range-5.ensures)) in
+    IfOk-weaker c.arg-12.result _ _
+    (λ r h. h.shape c.range_option-6.ensures.local ∙ ap₂ with_rule seconds (c.range_option-6.ensures.rule ∙ ap (λ p. record (size_option (codes "memory")) { parser = Some p }) (narrowed _ _ _ _ 65535 c.value_parser-6.ensures c.new-7.ensures.start c.new-7.ensures.end refl c.range-6.ensures)))
+    c.arg-12.ensures

@@ -13,4 +13,7 @@ returns c = record {
   clients = c.from-4.ensures ∙ c.given_size-4.ensures;
   idle = c.widened-2.ensures ∙ c.given_number-2.ensures;
   programs = c.unwrap_or.ensures ∙ ap (λ number. unwrap_or number 65536) (c.widened-3.ensures ∙ c.given_number-3.ensures);
+  memory = c.widened-4.ensures ∙ c.given_number-4.ensures;
+  keep = c.in_ok-given_text-3.ensures;
+  keep_seconds = c.from-5.ensures ∙ c.given_size-5.ensures;
 }
