@@ -4,12 +4,14 @@
 # and writes: what the system takes of each. The client is redis_load.c, and at the end redis-benchmark. It prints the server's processor
 # time a request, in microseconds (medians of five rounds), thousands of requests a second, what ours come to of Redis', what both come to
 # without the time of echo.c, and the memory of a connection. Client and servers share the machine. By hand, not by the gate; some five
-# minutes. MAPD names another server than the one that the gate built; WORKERS (2), ROUNDS (5) and MILLISECONDS (500) may be given too.
+# minutes. mapd and echo.c have one thread, as Redis has; with more a thread finds fewer requests each time that it wakes. MAPD names another
+# server than the one that the gate built; WORKERS (1), ROUNDS (5) and MILLISECONDS (500) may be given too.
 set -euo pipefail
 shopt -s inherit_errexit
 cd "$(dirname "$0")/.."
+source bench/servers.sh
 mapd=$(realpath -m "${MAPD:-crates/mapd/out/mapd}")
-workers=${WORKERS:-2}
+workers=${WORKERS:-1}
 rounds=${ROUNDS:-5}
 milliseconds=${MILLISECONDS:-500}
 operations=(get set incr mset evalsha)
@@ -17,20 +19,6 @@ loads=("50 1" "50 16" "1000 1" "1000 16")
 work=$(mktemp -d)
 processes=()
 trap '[ ${#processes[@]} = 0 ] || kill "${processes[@]}" 2> /dev/null || true; rm -rf "$work"' EXIT
-
-fail() {
-    echo "redis.sh: $*" >&2
-    exit 1
-}
-
-# Waits until a file has this text.
-await() {
-    for _ in $(seq 100); do
-        ! grep -q "$1" "$2" || return 0
-        sleep 0.1
-    done
-    fail "a server did not say '$1': $(cat "$2")"
-}
 
 start_mapd() {
     "$mapd" --redis 127.0.0.1:0 --workers "$workers" --stripes 64 --clients 20000 > "$work/ready" 2> "$work/listening" &

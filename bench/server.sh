@@ -7,6 +7,7 @@
 set -euo pipefail
 shopt -s inherit_errexit
 cd "$(dirname "$0")/.."
+source bench/servers.sh
 mapd=$(realpath -m "${MAPD:-crates/mapd/out/mapd}")
 rounds=3
 milliseconds=500
@@ -18,20 +19,6 @@ SECONDS=0
 work=$(mktemp -d)
 processes=()
 trap '[ ${#processes[@]} = 0 ] || kill "${processes[@]}" 2> /dev/null || true; rm -rf "$work"' EXIT
-
-fail() {
-    echo "server.sh: $*" >&2
-    exit 1
-}
-
-# Waits until a file has this text.
-await() {
-    for _ in $(seq 100); do
-        ! grep -q "$1" "$2" || return 0
-        sleep 0.1
-    done
-    fail "a server did not say '$1': $(cat "$2")"
-}
 
 start_mapd() {
     "$mapd" --listen 127.0.0.1:0 --workers 16 --stripes 64 > "$work/ready" 2> "$work/listening" &
