@@ -28,8 +28,8 @@ import wire  # noqa: E402
 from redis_wire import Client  # noqa: E402
 from wire import Wrong, same  # noqa: E402
 
-NOT_COMPARED = ("INFO", "HELLO 2 and 3", "COMMAND", "CONFIG GET", "CLIENT ID, LIST, INFO and SETINFO", "EVAL and SCRIPT LOAD",
-                "SET with IFEQ", "DELIFEQ", "the millisecond of a deadline", "a wrong time in a GETEX of no key", "words beyond mapd's limits", "escapes in quotes",
+NOT_COMPARED = ("INFO", "SAVE, BGSAVE, LASTSAVE, SHUTDOWN and DEBUG", "HELLO 2 and 3", "COMMAND", "CONFIG GET", "CLIENT ID, LIST, INFO and SETINFO", "EVAL and SCRIPT LOAD",
+                "SET with IFEQ", "DELIFEQ", "the millisecond of a deadline", "a wrong time in a GETEX of no key", "words beyond mapd's limits",
                 "cursors that are no decimals", "commands that mapd hasn't")
 # One stream in so many ends in bytes that are no command, and one walk comes after so many.
 FAULTY = 12
@@ -172,7 +172,7 @@ def main() -> None:
         print("redis: no gcc here, so no command with a deadline was compared")
     try:
         with contextlib.ExitStack() as stack:
-            held = stack.enter_context(clock.Held()) if clock.is_possible() else None
+            held = stack.enter_context(clock.Held(clock.BEGIN // times.STEP * times.STEP)) if clock.is_possible() else None
             print(f"redis: {play(asked.program, asked.commands, asked.seed, held)} ({time.monotonic() - begun:.0f} s)")
     except (Wrong, wire.Ended, OSError) as wrong:
         sys.exit(f"redis: FAILED, seed {asked.seed}: {type(wrong).__name__}: {wrong}")

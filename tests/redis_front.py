@@ -147,7 +147,7 @@ def both_ports_have_one_map(program: Path) -> None:
         same("a Get of it", framed.ask(wire.get(b"a")), wire.value(b"1"))
         same("a Put", framed.ask(wire.put(b"a", b"41")), wire.value(b"1"))
         same("an INCR of it", client.ask("INCR", "a"), resp.integer(42))
-        digest = resp.text_of(client.ask("SCRIPT", "LOAD", redis_linear.SUM))
+        digest = resp.text_of(client.ask("SCRIPT", "LOAD", resp.SUM_SCRIPT))
         first = framed.ask(wire.register(ADD.sizes, ADD.code))
         number = int.from_bytes(first[1:], "big")
         same("a Merge", framed.ask(wire.merge(b"sum", model.spelled(2), number)), wire.value(model.spelled(2)))
@@ -373,13 +373,19 @@ def cut_commands_are_not_made(program: Path) -> None:
             same(f"what is not there after byte {size}", judge.ask("EXISTS", "second"), b":0\r\n")
 
 
+def lasting_command(dice: random.Random) -> bytes:
+    """A command, spelled, that ends no server, even if one of its bytes is changed."""
+    spelled = streams.spelled(dice, streams.some_command(dice, KINDS))
+    return lasting_command(dice) if b"SHUTDOWN" in spelled.upper() else spelled
+
+
 def changed_bytes_end_nobody_else(program: Path) -> None:
     """Streams of commands with bytes changed, left out or doubled: whatever comes of them, the server goes on and serves others."""
     dice = random.Random(1)
     with started(program, "--workers", "2") as server, Client(server.address) as neighbour:
         until, count = time.monotonic() + 4, 0
         while time.monotonic() < until:
-            sent = bytearray(b"".join(streams.spelled(dice, streams.some_command(dice, KINDS)) for _ in range(dice.randrange(1, 8))))
+            sent = bytearray(b"".join(lasting_command(dice) for _ in range(dice.randrange(1, 8))))
             for _ in range(dice.choice((1, 1, 2, 5))):
                 place = dice.randrange(len(sent))
                 sent[place:place + dice.randrange(3)] = dice.choice((*PIECES, dice.randbytes(1)))
@@ -404,9 +410,19 @@ def what_tools_ask(program: Path) -> None:
         same("CONFIG GET save", told, [b"save", b""])
         client.ask("SET", "a", "1")
         fields = dict(line.split(b":", 1) for line in resp.text_of(client.ask("INFO")).split(b"\r\n") if b":" in line)
-        for name in (b"redis_version", b"redis_mode", b"used_memory", b"connected_clients", b"blocked_clients", b"total_commands_processed",
-                     b"total_connections_received"):
+        for name in (b"redis_version", b"redis_mode", b"uptime_in_seconds", b"used_memory", b"connected_clients", b"blocked_clients", b"rdb_last_save_time",
+                     b"rdb_last_bgsave_status", b"total_commands_processed", b"total_connections_received", b"rejected_connections",
+                     b"expired_keys", b"keyspace_hits", b"keyspace_misses"):
             same(f"INFO has {name.decode()}", name in fields, True)
+        client.ask("GET", "a"), client.ask("GET", "b")
+        more = dict(line.split(b":", 1) for line in resp.text_of(client.ask("INFO", "stats")).split(b"\r\n") if b":" in line)
+        for name, many in ((b"total_commands_processed", 3), (b"keyspace_hits", 1), (b"keyspace_misses", 1)):
+            same(f"how much INFO's {name.decode()} grows", int(more[name]) - int(fields[name]), many)
+        same("INFO about one section has no other", b"db0" in more, False)
+        memory = dict(line.split(b":", 1) for line in resp.text_of(client.ask("INFO", "memory", "replication")).split(b"\r\n") if b":" in line)
+        resident = next(line for line in Path(f"/proc/{server.process.pid}/status").read_text().splitlines() if line.startswith("VmRSS"))
+        same("used_memory is what the system says, within a tenth", abs(int(memory[b"used_memory"]) - int(resident.split()[1]) * 1024) * 10 < int(memory[b"used_memory"]), True)
+        same("INFO about two sections has both", b"role" in memory, True)
         same("INFO has the number of keys", fields[b"db0"].split(b",")[0], b"keys=1")
 
 

@@ -34,15 +34,7 @@ CLIENTS = 5
 KEYS = [b"", b"Aa", b"BB", b"key 3", b"\xff" * 64]
 OPTIONS = ("--workers", "4", "--stripes", "4")
 ADD = model.PROGRAMS[model.ADD]
-# The sum as a script, and its name.
-SUM = b"""#!bpf merge integer 64 8 8 8
-ldd r0, [r2+0]
-ldd r9, [r3+0]
-add64 r0, r9
-stxd [r4+0], r0
-mov64 r0, 8
-exit
-"""
+# The name of the sum as a script.
 SUM_NAME = b"69de85aeed5925512b910058036294c644f86338"
 RELEASE = b"c3f8721cbb97f72bc19e972846bd7aaf91901658"
 NO_INTEGER = resp.error("ERR value is not an integer or out of range")
@@ -297,7 +289,7 @@ class Rounds:
         self.play = play
         self.made = self.rounds = 0
         self.client = resp.Client(server.address)
-        self.digest = resp.text_of(self.client.ask("SCRIPT", "LOAD", SUM)) if server.frames else b""
+        self.digest = resp.text_of(self.client.ask("SCRIPT", "LOAD", resp.SUM_SCRIPT)) if server.frames else b""
 
     def played(self, seconds: float) -> list[list[Event]]:
         """Makes calls for this long: the events of each client."""

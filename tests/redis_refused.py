@@ -36,11 +36,11 @@ Words = tuple[bytes, ...]
 # What each client asks for. The third one sends its commands in pieces, so that the server keeps beginnings of them.
 SESSIONS: list[list[Words]] = [
     [(b"SET", b"a", b"xy"), (b"GET", b"a"), (b"CLIENT", b"SETNAME", b"somebody"), (b"CLIENT", b"GETNAME"), (b"INCRBY", b"n", b"5")],
-    [(b"EVALSHA", NAME, b"1", b"sum", THREE), (b"SCRIPT", b"LOAD", linear.SUM), (b"EVALSHA", NAME, b"1", b"sum", THREE),
+    [(b"EVALSHA", NAME, b"1", b"sum", THREE), (b"SCRIPT", b"LOAD", resp.SUM_SCRIPT), (b"EVALSHA", NAME, b"1", b"sum", THREE),
      (b"EVALSHA", NAME, b"1", b"sum", THREE), (b"GET", b"sum")],
     [(b"SET", b"long", LONGEST), (b"GET", b"long"), (b"APPEND", b"m", b"x" * 200), (b"APPEND", b"m", b"y" * 200)],
     [(b"MSET", b"b", b"1", b"c", b"2", b"d", b"3"), (b"MGET", b"a", b"b", b"c", b"d"), (b"SETNX", b"b", b"4"), (b"DEL", b"c", b"e"),
-     (b"SETRANGE", b"r", b"3", b"z"), (b"GETDEL", b"d"), (b"EVAL", linear.SUM, b"1", b"sum", THREE)],
+     (b"SETRANGE", b"r", b"3", b"z"), (b"GETDEL", b"d"), (b"EVAL", resp.SUM_SCRIPT, b"1", b"sum", THREE)],
     [(b"SET", b"t", b"1", b"EXAT", LATER), (b"EXPIREAT", b"a", LATER), (b"EXPIRETIME", b"t"), (b"INCRBY", b"t", b"5"), (b"EXPIRETIME", b"t"),
      (b"EXPIREAT", b"absent", LATER), (b"SET", b"u", b"2", b"EXAT", LATER), (b"PERSIST", b"u"), (b"EXPIRETIME", b"u")],
     [(b"EXPIRETIME", b"a"), (b"PERSIST", b"a"), (b"EXPIRETIME", b"a"), (b"SET", b"t", b"3"), (b"EXPIRETIME", b"t"), (b"GET", b"u")],

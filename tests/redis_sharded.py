@@ -94,7 +94,7 @@ def programs_are_called(address: str) -> None:
             reply = client.ask("EVALSHA", redis_linear.SUM_NAME, *asked)
             if reply.startswith(b"-NOSCRIPT"):
                 unknown += 1
-                reply = client.ask("EVAL", redis_linear.SUM, *asked)
+                reply = client.ask("EVAL", resp.SUM_SCRIPT, *asked)
             same("a first call", reply, resp.integer(3))
             same("a second call", client.ask("EVALSHA", redis_linear.SUM_NAME, *asked), resp.integer(6))
         same("how many servers didn't know the script", unknown, 2)

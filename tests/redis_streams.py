@@ -3,6 +3,7 @@ in which a client may send them."""
 from __future__ import annotations
 
 import random
+import re
 from collections.abc import Callable, Iterator
 
 from redis_wire import Word, as_word, command
@@ -137,7 +138,8 @@ def connection(dice: random.Random) -> Words:
         ["CLIENT", "ID", "x"], ["AUTH", "x"], ["AUTH"], ["AUTH", "a", "b"], ["AUTH", "default", "b"], ["HELLO", 2, "FOO"],
         ["HELLO", 2, "SETNAME"], ["HELLO", 4], ["HELLO", 1], ["HELLO", "x"], ["RESET"], ["SCRIPT"], ["SCRIPT", "FOO"], ["SCRIPT", "LOAD"],
         ["CONFIG"], ["CONFIG", "GET"], ["COMMAND", "FOO"], ["CONFIG", "FOO"], ["DBSIZE", "x"], ["FLUSHALL", "x"],
-        ["FLUSHDB", "SYNC", "x"], ["KEYS"], ["RANDOMKEY", "x"])))
+        ["FLUSHDB", "SYNC", "x"], ["KEYS"], ["RANDOMKEY", "x"], ["SAVE", "x"], ["LASTSAVE", "x"], ["BGSAVE", "x"],
+        ["BGSAVE", "SCHEDULE", "x"], ["SHUTDOWN", "x"], ["SHUTDOWN", "SAVE", "NOSAVE"], ["DEBUG"], ["INFO", "x"])))
 
 
 def with_wrong_count(dice: random.Random, name: str, least: int, most: int) -> Words:
@@ -183,21 +185,46 @@ def some_command(dice: random.Random, commands: list[tuple[int, Maker]]) -> list
     return [in_any_case(dice, words[0]), *map(as_word, words[1:])]
 
 
-def in_line(dice: random.Random, word: bytes) -> bytes | None:
-    """A word as it may stand in a line, in quotes or without; nothing if it can't. (mapd has no escapes in quotes.)"""
-    is_plain = word and all(33 <= byte < 127 and byte not in b"\"'" for byte in word)
-    if is_plain and dice.random() < 0.8:
+# What letters stand for after a backslash between double quotes.
+LETTERS = {10: b"n", 13: b"r", 9: b"t", 8: b"b", 7: b"a"}
+
+
+def in_double_quotes(dice: random.Random, word: bytes) -> bytes:
+    """A word between double quotes; some of its bytes have an escape that they need not."""
+    told = b""
+    for byte in word:
+        itself = bytes([byte])
+        needs_one = byte in b"\0\n\"\\"
+        ways = [b"\\x%02x" % byte, b"\\x%02X" % byte]
+        if byte in LETTERS:
+            ways.append(b"\\" + LETTERS[byte])
+        if byte not in b"\0\nnrtbax":
+            ways.append(b"\\" + itself)
+        told += dice.choice(ways) if needs_one or dice.random() < 0.2 else itself
+    return b"\"" + told + b"\""
+
+
+def in_single_quotes(word: bytes) -> bytes | None:
+    """A word between single quotes; nothing if it can't be."""
+    return None if word[-1:] == b"\\" or any(byte in b"\0\n" for byte in word) else b"'" + word.replace(b"'", b"\\'") + b"'"
+
+
+def in_line(dice: random.Random, word: bytes) -> bytes:
+    """A word as it may stand in a line: without quotes, in quotes, or half and half."""
+    plain = re.match(rb"[!#-&(-~]*", word)[0]
+    if plain and plain == word and dice.random() < 0.7:
         return word
-    quote = dice.choice((b"\"", b"'"))
-    return None if any(byte < 32 or byte in b"\\" + quote for byte in word) else quote + word + quote
+    front = plain[:dice.randrange(len(plain) + 1)] if dice.random() < 0.3 else b""
+    rest = word[len(front):]
+    single = in_single_quotes(rest) if dice.random() < 0.5 else None
+    return front + (single or in_double_quotes(dice, rest))
 
 
 def spelled(dice: random.Random, words: list[bytes]) -> bytes:
     """A command as an array, or sometimes as a line, if it can be one."""
-    if dice.random() < 0.15 and words[0][:1] not in b"*$":
+    if dice.random() < 0.15 and words[0][:1] not in b"*$" and sum(map(len, words)) < 10000:
         told = [in_line(dice, word) for word in words]
-        if None not in told:
-            return dice.choice((b"", b" ")) + dice.choice((b" ", b"  ", b" \t")).join(told) + dice.choice((b"\r\n", b"\n", b" \r\n"))
+        return dice.choice((b"", b" ", b"\v")) + dice.choice((b" ", b"  ", b" \t", b" \f")).join(told) + dice.choice((b"\r\n", b"\n", b" \r\n"))
     return command(*words)
 
 
@@ -218,4 +245,4 @@ def cut(dice: random.Random, sent: bytes) -> Iterator[bytes]:
 FAULTS = [
     b"*x\r\n", b"*1x\r\n", b"*01\r\n$4\r\nPING\r\n", b"* 1\r\n", b"*1\r\n+4\r\n", b"*1\r\n4\r\n", b"*2\r\n$3\r\nGET\r\nxx\r\n",
     b"*1\r\n$x\r\n", b"*1\r\n$-1\r\n", b"*1\r\n$04\r\n", b"*1\r\n$\r\n", b"*9999999999\r\n", b"*1\r\n$99999999999999999999\r\n",
-    b"GET \"a\r\n", b"GET 'a\r\n", b"SET a \"b\"c\r\n", b"a" * 70000, b"*1\r\n\r\n", b"*\r\n$4\r\nPING\r\n", b"*-0\r\n", b"*+1\r\n"]
+    b"GET \"a\r\n", b"GET 'a\r\n", b"SET a \"b\"c\r\n", b"GET \"a\\\"\r\n", b"GET 'a\\'\r\n", b"GET a'b'\"c\"\n", b"GET \"\\x4\n\"\n", b"a" * 70000, b"*1\r\n\r\n", b"*\r\n$4\r\nPING\r\n", b"*-0\r\n", b"*+1\r\n"]

@@ -1,6 +1,6 @@
 #!/usr/bin/env bash
-# Plays tools for Redis against the built mapd with a Redis port: redis-cli, redis-benchmark, redis-py, hiredis, and nutcracker before two
-# servers. Each is played if it is installed; a line says what is missing. By hand after `rt run` in crates/mapd; by .ci/run behind the
+# Plays tools for Redis against the built mapd with a Redis port: redis-cli, redis-benchmark, redis-py, hiredis, redis_exporter, and nutcracker
+# before two servers. Each is played if it is installed; a line says what is missing. By hand after `rt run` in crates/mapd; by .ci/run behind the
 # gate. MAPD names another program to try. If that is redis-server, what Redis has is tried on it.
 set -euo pipefail
 cd "$(dirname "$0")/.."
@@ -75,7 +75,7 @@ play_cli_walks() {
     cli info
     judge "redis-cli info" told '^redis_version:7'
     timeout 2 stdbuf -oL redis-cli -p "$port" --stat -i 1 > "$work/out" 2> "$work/err" < /dev/null || true
-    judge "redis-cli --stat" told '^50[0-9] +[0-9.]+[BKMG]? +[0-9]+ +0 +[0-9]+'
+    judge "redis-cli --stat" told '^50[0-9] +[1-9][0-9.]*[KMG] +[0-9]+ +0 +[0-9]+'
     cli -3 ping
     judge "redis-cli -3" told '^PONG$'
 }
@@ -134,6 +134,12 @@ play_hiredis() {
     judge "hiredis" told '^hiredis .*: passed$'
 }
 
+play_exporter() {
+    got=0
+    timeout 60 python3 tests/redis_exporter.py "$port" > "$work/out" 2> "$work/err" || got=$?
+    judge "redis_exporter" told '^redis_exporter: .*: passed$'
+}
+
 play_sharded() {
     got=0
     timeout 120 python3 tests/redis_sharded.py --program "$program" > "$work/out" 2> "$work/err" || got=$?
@@ -164,6 +170,11 @@ if type -P gcc > /dev/null && [ -e /usr/include/hiredis/hiredis.h ]; then
     play_hiredis
 else
     echo "redis_tools: no hiredis here (Debian's package libhiredis-dev), or no gcc"
+fi
+if [ -n "$(type -P prometheus-redis-exporter redis_exporter || true)" ]; then
+    play_exporter
+else
+    echo "redis_tools: no redis_exporter here (Debian's package prometheus-redis-exporter)"
 fi
 if type -P nutcracker > /dev/null; then
     play_sharded

@@ -21,6 +21,15 @@ NOTHING = b"$-1\r\n"
 # What a client is told if there is no memory, and if there is no room for it.
 NO_MEMORY = b"-OOM command not allowed when used memory > 'maxmemory'.\r\n"
 NO_ROOM = b"-ERR max number of clients reached\r\n"
+# A script that adds two numbers of eight bytes.
+SUM_SCRIPT = b"""#!bpf merge integer 64 8 8 8
+ldd r0, [r2+0]
+ldd r9, [r3+0]
+add64 r0, r9
+stxd [r4+0], r0
+mov64 r0, 8
+exit
+"""
 
 
 def as_word(word: Word) -> bytes:

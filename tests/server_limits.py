@@ -1,7 +1,7 @@
 #!/usr/bin/env python3
 """Tries the built mapd where something is wanting or limited: descriptors that run out and come back, a listener that fails for good,
-threads that can't be made, clients beyond the limit, silent ones and deaf ones, one that drips after a refusal, and sessions that are
-counted.
+threads that can't be made, clients beyond the limit, a map beyond its memory, silent clients and deaf ones, one that drips after a
+refusal, and sessions that are counted.
 
 By hand, after `rt run` in crates/mapd: python3 tests/server_limits.py. Behind the gate, which builds the program."""
 from __future__ import annotations
@@ -159,6 +159,22 @@ def clients_beyond_the_limit_are_told(program: Path) -> None:
             same("a Get when they have left", late.ask(wire.get(b"a")), wire.value(b"1"))
 
 
+def a_full_map_serves_on(program: Path) -> None:
+    """A map whose memory is full refuses a new key with 9. It takes all else, and if keys go it takes new ones."""
+    value, keys = bytes(200), []
+    with started(program, "--memory", "6", "--stripes", "1") as server, wire.opened(server.address) as client:
+        while len(keys) < 20_000 and client.ask(wire.put(b"%d" % len(keys), value)) == wire.NOTHING:
+            keys.append(b"%d" % len(keys))
+        same("how many keys there is room for", 5_000 <= len(keys) <= 10_000, True)
+        same("one key more", client.ask(wire.put(b"more", value)), wire.refused(9))
+        same("a present key", client.ask(wire.put(keys[0], b"new")), wire.value(value))
+        with wire.opened(server.address) as late:
+            same("a Get of a later client", late.ask(wire.get(keys[0])), wire.value(b"new"))
+        for key in keys[1:]:
+            same("a Remove", client.ask(wire.remove(key)), wire.value(value))
+        same("a new key when there is room", client.ask(wire.put(b"more", value)), wire.NOTHING)
+
+
 def ends_within(client: wire.Client, seconds: float) -> float | None:
     """After how long the client's stream ends; none if it does not in time."""
     begun = time.monotonic()
@@ -253,7 +269,7 @@ def one_worker_answers_each(program: Path) -> None:
 
 
 PARTS = (accepts_are_tried_again, failed_accepts_end_the_server, a_failed_port_ends_the_server, missing_threads_are_told,
-         clients_beyond_the_limit_are_told, silent_clients_are_let_go, deaf_clients_are_let_go, drips_end, one_worker_answers_each, sessions_are_counted_at_once,
+         clients_beyond_the_limit_are_told, a_full_map_serves_on, silent_clients_are_let_go, deaf_clients_are_let_go, drips_end, one_worker_answers_each, sessions_are_counted_at_once,
          workers_without_descriptors_are_told)
 
 

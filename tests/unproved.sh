@@ -30,6 +30,7 @@ run_where_built() {
 
 try program_tests & try session_tests
 wait
+try redis_tests
 try map_tests & try walk_tests
 wait
 bpfmap=crates/bpfmap/out/bpfmap

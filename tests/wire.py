@@ -78,6 +78,11 @@ def put(key: bytes, value: bytes) -> bytes:
     return b"\x11" + key_field(key) + value_field(value)
 
 
+def remove(key: bytes) -> bytes:
+    """The body of a Remove."""
+    return b"\x13" + key_field(key)
+
+
 def register(sizes: tuple[int, int, int, int], code: bytes) -> bytes:
     """The body of a Register."""
     return b"\x01" + b"".join(size.to_bytes(2, "big") for size in sizes) + code

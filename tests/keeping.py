@@ -1,0 +1,563 @@
+#!/usr/bin/env python3
+"""Tries `mapd --keep FILE`: what a restart brings back.
+
+  - killed: sixteen clients of both protocols, or one, and SIGKILL at a random moment. Then nothing is missing that was answered before a
+    save, or longer ago than the saves are apart and take; nothing is there that never was, and each key is what it was at one moment.
+    Programs have their numbers, scripts their names, and sqlite3 finds no fault in the file.
+  - ended: after the last session, or SHUTDOWN, nothing is missing, with another number of stripes too.
+  - damaged: files of another kind, cut ones, ones with changed bits. Each is refused, or every entry is one that was there.
+  - hindered: a file that can't be written, a full disk, a file that is removed, a second server.
+  - asked: SAVE, BGSAVE, LASTSAVE and SHUTDOWN.
+
+By hand, after `rt run` in crates/mapd: python3 tests/keeping.py [--rounds 500] [--bits 2000] [--seed N] [PART ..]. With `--program
+redis-server` it plays the part `killed` on the file that Redis appends to. By .ci/run behind the gate."""
+from __future__ import annotations
+
+import argparse
+import contextlib
+import os
+import random
+import resource
+import shutil
+import signal
+import sqlite3
+import sys
+import tempfile
+import threading
+import time
+from collections.abc import Callable, Iterator
+from hashlib import sha1
+from pathlib import Path
+
+sys.path.insert(0, str(Path(__file__).resolve().parent))
+sys.dont_write_bytecode = True
+import keeping_load as load  # noqa: E402
+import redis_wire as resp  # noqa: E402
+import sequential as model  # noqa: E402
+import wire  # noqa: E402
+from keeping_load import Changes, Kept, Named, NotStarted, Player, State, kept  # noqa: E402
+from wire import Wrong, same  # noqa: E402
+
+CLIENTS = 16
+# Entries that stay as they are, so that the map is larger than what changes.
+BALLAST = {b"ballast %d" % number: State(b"%d" % number * 20) for number in range(5000)}
+NOBODY = 65534
+DEADLINE = 4_000_000_000_000
+
+
+def is_redis(program: Path) -> bool:
+    """Whether the program is redis-server."""
+    return program.name == "redis-server"
+
+
+def log_of(file: Path) -> Path:
+    """The log beside a file."""
+    return file.with_name(file.name + "-wal")
+
+
+def copied(file: Path, folder: Path) -> Path:
+    """A copy of a file and its log, in this folder."""
+    folder.mkdir()
+    for part in (file, log_of(file)):
+        if part.exists():
+            shutil.copy(part, folder / part.name)
+    return folder / file.name
+
+
+def check_by_sqlite(file: Path) -> None:
+    """Fails if sqlite3 finds a fault in a copy of the file and its log."""
+    with tempfile.TemporaryDirectory() as folder:
+        copy = copied(file, Path(folder) / "copy")
+        with contextlib.closing(sqlite3.connect(copy)) as data:
+            same("the integrity check", data.execute("pragma integrity_check").fetchall(), [("ok",)])
+
+
+def entries_by_sql(file: Path) -> Changes:
+    """The entries that SQL finds in a copy of the file and its log."""
+    with tempfile.TemporaryDirectory() as folder:
+        copy = copied(file, Path(folder) / "copy")
+        with contextlib.closing(sqlite3.connect(copy)) as data:
+            rows = data.execute("select key, value, deadline from entries").fetchall()
+    return {bytes(key): State(bytes(value), deadline, deadline) for key, value, deadline in rows}
+
+
+class Known:
+    """The programs and scripts that a server must know, by their numbers and names."""
+
+    def __init__(self) -> None:
+        self.programs: dict[int, bytes] = {}
+        self.scripts: dict[bytes, bytes] = {}
+
+    def check(self, server: Kept, named: list[Named], limit: float) -> None:
+        """Fails if one that was answered before the limit is unknown now, or has another number. The others may be there, or not."""
+        for one in (one for one in named if one.answered < limit):
+            self.note(one)
+        with wire.opened(server.frames, 2) as client:
+            for number, code in self.programs.items():
+                self.check_program(client, number, code)
+            client.ask(b"\x13" + wire.key_field(load.PROBE))
+        with resp.Client(server.redis) as client:
+            names = list(self.scripts)
+            replies = resp.members_of(client.ask("SCRIPT", "EXISTS", *names)) if names else []
+            same("scripts that are known", replies, [resp.integer(1)] * len(names))
+            for name in names[-3:]:
+                client.ask("DEL", load.PROBE)
+                same("a script's reply", client.ask("EVALSHA", name, 1, load.PROBE, 1), resp.integer(1))
+            client.ask("DEL", load.PROBE)
+
+    def note(self, one: Named) -> None:
+        """It must be known from now on."""
+        if isinstance(one.name, bytes):
+            self.scripts[one.name] = one.code
+        elif self.programs.setdefault(one.name, one.code) != one.code:
+            raise Wrong(f"two programs have the number {one.name}")
+
+    def check_program(self, client: wire.Client, number: int, code: bytes) -> None:
+        """Fails if the program doesn't have this number, or answers something else."""
+        is_sum = code == model.PROGRAMS[model.ADD].code
+        sizes = model.PROGRAMS[model.ADD].sizes if is_sum else load.CONSTANT_SIZES
+        client.send(b"\x13" + wire.key_field(load.PROBE), wire.compute(load.PROBE, number, load.ONE), wire.register(sizes, code))
+        _, answer, registered = client.answer(), client.answer(), client.answer()
+        constant = load.ONE if is_sum else model.spelled(int.from_bytes(code[4:8], "little"))
+        same(f"the answer of program {number}", answer, wire.value(constant))
+        same(f"the number of program {number}", registered, b"\x81" + wire.number_field(number))
+
+
+def fill(server: Kept, entries: Changes) -> None:
+    """Sets all these entries."""
+    with resp.Client(server.redis) as client:
+        keys = list(entries)
+        for begin in range(0, len(keys), 500):
+            some = keys[begin:begin + 500]
+            client.socket.sendall(b"".join(set_command(key, entries[key]) for key in some))
+            for _ in some:
+                same("the reply to SET", client.reply(), resp.OK)
+
+
+def set_command(key: bytes, state: State) -> bytes:
+    """The command that makes this entry."""
+    until = [] if state.earliest is None else ["PXAT", state.earliest]
+    return resp.command("SET", key, state.value, *until)
+
+
+class Rounds:
+    """Servers on one file, each killed, and what is known of it: with clients of these names."""
+
+    def __init__(self, program: Path, folder: Path, names: list[bytes], seed: int) -> None:
+        folder.mkdir()
+        self.program, self.file, self.names = program, folder / "map.db", names
+        self.seed, self.dice = f"{seed} {names}", random.Random(f"{seed} {names}")
+        self.found: Changes = {}
+        self.known = Known()
+        self.missing: list[float] = []
+
+    def options(self, stripes: int) -> list[str]:
+        """Options of a server with so many stripes."""
+        return ["--stripes", str(stripes), "--workers", str(self.dice.choice((1, 2, 4)))]
+
+    def start(self, stripes: int) -> Kept:
+        """Starts a server; now and then one before it is killed while it starts."""
+        if self.dice.randrange(4) == 0:
+            with contextlib.suppress(NotStarted):
+                limit = random_kill(self.dice.random() * 0.2)
+                Kept(self.program, self.file, *self.options(stripes), limit=limit).kill()
+        return load.start(self.program, self.file, *self.options(stripes))
+
+    def play(self, number: int) -> None:
+        """A round: what one more server is told, and what the next one brings back."""
+        is_alone = len(self.names) == 1
+        stripes = 1 if is_alone else self.dice.choice((1, 4, 16, 64))
+        server = self.start(stripes)
+        if not self.missing:
+            fill(server, BALLAST)
+        moment = load.Moment(asks=self.dice.random() < 0.5)
+        players = [Player(name, f"{self.seed} {number} {name!r}", self.found, moment) for name in self.names]
+        begun = time.monotonic()
+        took, killed = load.played(server, players, is_alone, 0.2 + 5 * self.dice.random(), moment)
+        # saves are a second apart; on a busy machine one may begin late, and take much longer than the one that was timed
+        limit = max([killed - 2.5 - 10 * took, *moment.saves])
+        if not is_redis(self.program):
+            check_by_sqlite(self.file)
+        self.judge(players, limit, killed, stripes == 1)
+        print(f"round {number}: {len(players)} clients, {stripes} stripes, {sum(len(player.steps) for player in players)} steps in "
+              f"{killed - begun:.1f} s, {len(moment.saves)} saves asked for (one took {took:.3f} s); the oldest that is missing is "
+              f"{self.missing[-1]:.2f} s old", flush=True)
+
+    def judge(self, players: list[Player], limit: float, killed: float, is_one_moment: bool) -> None:
+        """Starts the next server, and looks at what it brought back."""
+        server = self.start(self.dice.choice((1, 4, 16, 64)))
+        try:
+            found, now = load.read_back(server), load.millis()
+            for key, state in BALLAST.items():
+                same(f"{key!r}, which never changes,", found.get(key), state)
+            strange = set(found) - set(BALLAST) - {key for player in players for key in player.begun}
+            same("keys that nobody put", strange, set())
+            self.missing.append(max(load.judge(player, found, now, limit, killed, is_one_moment) for player in players))
+            self.found = {key: state for key, state in found.items() if key not in BALLAST}
+            if not is_redis(self.program):
+                self.known.check(server, [one for player in players for one in player.named], limit)
+        finally:
+            server.kill()
+
+
+def random_kill(seconds: float) -> Callable[[], None]:
+    """Has a process that is started be killed after so long."""
+    def prepare() -> None:
+        signal.signal(signal.SIGALRM, signal.SIG_DFL)
+        signal.setitimer(signal.ITIMER_REAL, seconds)
+    return prepare
+
+
+def killed(given: argparse.Namespace, folder: Path) -> None:
+    """Servers are killed at random moments."""
+    many = Rounds(given.program, folder / "many", [b"client%d" % client for client in range(CLIENTS)], given.seed)
+    alone = Rounds(given.program, folder / "alone", [b"alone"], given.seed)
+    for number in range(given.rounds):
+        (alone if number % 3 == 2 else many).play(number)
+    oldest = max(many.missing + alone.missing)
+    print(f"killed: {given.rounds} rounds; the oldest step that was ever missing was {oldest:.2f} s old")
+
+
+SAVED: Changes = {
+    **{b"text %d" % number: State(b"%d." % number * (number + 1)) for number in range(40)},
+    b"": State(b""), b"\x00" * 64: State(bytes(range(256)) * 4), b"timed": State(b"until", DEADLINE, DEADLINE),
+}
+
+
+def make_saved(given: argparse.Namespace, file: Path, known: Known) -> None:
+    """A server that saves some entries, programs and scripts, and ends in order."""
+    with kept(given.program, file) as server:
+        fill(server, SAVED)
+        name_some(server, known)
+        shut_down(server)
+
+
+def name_some(server: Kept, known: Known) -> None:
+    """Registers three programs, and loads two scripts."""
+    with wire.opened(server.frames, 2) as client:
+        for code in [model.PROGRAMS[model.ADD].code, load.constant_program(1), load.constant_program(1 << 30)]:
+            sizes = load.CONSTANT_SIZES if code[0] == 0x7A else model.PROGRAMS[model.ADD].sizes
+            answer = client.ask(wire.register(sizes, code))
+            known.note(Named(code, int.from_bytes(answer[1:], "big"), 0))
+    with resp.Client(server.redis) as client:
+        for text in (resp.SUM_SCRIPT, resp.SUM_SCRIPT + b"# another\n"):
+            client.ask("SCRIPT", "LOAD", text)
+            known.note(Named(text, sha1(text).hexdigest().encode(), 0))
+
+
+def shut_down(server: Kept, *words: str) -> None:
+    """Ends a server by SHUTDOWN: its connection ends without a reply, and its status is 0."""
+    with resp.Client(server.redis) as client:
+        client.send("SHUTDOWN", *words)
+        same("the reply to SHUTDOWN", client.rest(), b"")
+    same("the status after SHUTDOWN", server.finish(), 0)
+
+
+def check_all(given: argparse.Namespace, file: Path, wanted: Changes, known: Known, *options: str) -> None:
+    """Fails if a server on this file hasn't just these entries, programs and scripts."""
+    with kept(given.program, file, *options) as server:
+        same("the entries", load.read_back(server), wanted)
+        known.check(server, [], 0)
+
+
+def ended(given: argparse.Namespace, folder: Path) -> None:
+    """Servers that end in order lose nothing."""
+    file, known = folder / "map.db", Known()
+    make_saved(given, file, known)
+    check_by_sqlite(file)
+    same("the entries by SQL", entries_by_sql(file), SAVED)
+    for stripes in ("1", "64", "2"):
+        check_all(given, file, SAVED, known, "--stripes", stripes)
+    for count in range(3):
+        with kept(given.program, file, "--workers", "1", "--sessions", "1", "--keep-seconds", "3600", "--stripes", str(1 << count)) as server:
+            with resp.Client(server.redis) as client:
+                same("SET", client.ask("SET", "last", "session %d" % count), resp.OK)
+                same("DEL", client.ask("DEL", "text %d" % count), resp.integer(1))
+            same("the status", server.finish(), 0)
+            same("what is printed", server.printed, b"ready\nserved 1\n")
+        wanted = {key: state for key, state in SAVED.items() if key not in [b"text %d" % number for number in range(count + 1)]}
+        wanted[b"last"] = State(b"session %d" % count)
+        check_all(given, file, wanted, known)
+    with kept(given.program, file, "--keep-seconds", "3600") as server:
+        with resp.Client(server.redis) as client:
+            client.ask("SET", "last", "never saved")
+        shut_down(server, "NOSAVE")
+    check_all(given, file, wanted, known)
+    emptied(given, file)
+    backed_up(given, folder)
+
+
+def emptied(given: argparse.Namespace, file: Path) -> None:
+    """After FLUSHALL, and a deadline that is over while no server runs, nothing is there."""
+    with kept(given.program, file) as server:
+        with resp.Client(server.redis) as client:
+            client.ask("FLUSHALL")
+            client.ask("SET", "short", "x", "PX", 400)
+        shut_down(server)
+    time.sleep(0.5)
+    check_all(given, file, {}, Known())
+
+
+def backed_up(given: argparse.Namespace, folder: Path) -> None:
+    """A copy of both files, made while the process stands still amid a load, is whole: docs/KEEPING.md."""
+    file, known = folder / "busy.db", Known()
+    with kept(given.program, file) as server:
+        fill(server, SAVED)
+        name_some(server, known)
+        with resp.Client(server.redis) as client:
+            same("SAVE", client.ask("SAVE"), resp.OK)
+        busy = threading.Thread(target=fill, args=(server, BALLAST))
+        busy.start()
+        time.sleep(0.1)
+        server.process.send_signal(signal.SIGSTOP)
+        copy = copied(file, folder / "backup")
+        server.process.send_signal(signal.SIGCONT)
+        busy.join()
+    check_by_sqlite(copy)
+    with kept(given.program, copy) as server:
+        found = load.read_back(server)
+        same("what the copy has of what was saved", {key: found.get(key) for key in SAVED}, SAVED)
+        same("what else it has", {key for key in set(found) - set(SAVED) if found[key] != BALLAST.get(key)}, set())
+        known.check(server, [], 0)
+
+
+def serves_truly(given: argparse.Namespace, file: Path, seen: dict[bytes, list[State]], known: Known) -> bool:
+    """Whether a server takes the file. Fails if it then has an entry or a program that never was, or if it says nothing of why not."""
+    try:
+        server = Kept(given.program, file, "--workers", "1")
+    except NotStarted as refused:
+        same("the status is 1 or 3", refused.status in (1, 3), True)
+        if not refused.lines:
+            raise Wrong("nothing says why the file is refused") from refused
+        return False
+    try:
+        for key, state in load.read_back(server).items():
+            if state not in seen.get(key, []):
+                raise Wrong(f"{key!r} is {state!r:.200}, which never was there")
+        with wire.opened(server.frames, 2) as client:
+            for number, code in known.programs.items():
+                if client.ask(wire.compute(load.PROBE, number, load.ONE)) != wire.refused(66):
+                    known.check_program(client, number, code)
+    finally:
+        server.kill()
+    return True
+
+
+def damaged(given: argparse.Namespace, folder: Path) -> None:
+    """Files that are none of ours, and ours with damage."""
+    file, known = folder / "map.db", Known()
+    make_saved(given, file, known)
+    seen = {key: [state] for key, state in SAVED.items()}
+    other_files(given, file, folder, seen, known)
+    with_log = folder / "with a log.db"
+    for part in (file, log_of(file)):
+        if part.exists():
+            shutil.copy(part, with_log if part == file else log_of(with_log))
+    with kept(given.program, with_log) as server:
+        for count in range(4):
+            changed = {b"text %d" % number: State(b"change %d of %d" % (count, number)) for number in range(0, 40, 3)}
+            fill(server, changed)
+            with resp.Client(server.redis) as client:
+                same("SAVE", client.ask("SAVE"), resp.OK)
+            for key, state in changed.items():
+                seen[key].append(state)
+    for name in (file, with_log):
+        for part in (name, log_of(name)):
+            if part.exists():
+                cut_everywhere(given, name, part, seen, known)
+                change_bits(given, name, part, seen, known)
+
+
+def other_files(given: argparse.Namespace, file: Path, folder: Path, seen: dict[bytes, list[State]], known: Known) -> None:
+    """A file of another kind is refused, and keeps what it has; an empty one becomes a new one."""
+    text, other, newer, empty = (folder / name for name in ("text.db", "other.db", "newer.db", "empty.db"))
+    text.write_bytes(b"no database, but a text of some length\n" * 100)
+    with contextlib.closing(sqlite3.connect(other)) as data, data:
+        data.execute("create table entries (id integer primary key, note text)")
+        data.execute("insert into entries (note) values ('mine')")
+    shutil.copy(file, newer)
+    with contextlib.closing(sqlite3.connect(newer)) as data, data:
+        same("the settings that were changed", data.execute("update settings set value = value + 1 where name = 'format'").rowcount, 1)
+    for name in (text, other, newer, folder, folder / "no folder" / "map.db"):
+        same(f"{name.name} is taken", serves_truly(given, name, {}, Known()), False)
+    same("the text", text.read_bytes()[:20], b"no database, but a t")
+    with contextlib.closing(sqlite3.connect(other)) as data:
+        same("the other entries", data.execute("select note from entries").fetchall(), [("mine",)])
+    empty.touch()
+    same("an empty file is taken", serves_truly(given, empty, {}, Known()), True)
+    same("the file itself is taken", serves_truly(given, file, seen, known), True)
+
+
+@contextlib.contextmanager
+def spoiled(file: Path, part: Path, change: Callable[[bytearray], None]) -> Iterator[Path]:
+    """A copy of a file and its log, with one of both changed."""
+    with tempfile.TemporaryDirectory() as folder:
+        copy = copied(file, Path(folder) / "copy")
+        place = copy.with_name(part.name)
+        data = bytearray(place.read_bytes())
+        change(data)
+        place.write_bytes(data)
+        yield copy
+
+
+def cut_everywhere(given: argparse.Namespace, file: Path, part: Path, seen: dict[bytes, list[State]], known: Known) -> None:
+    """The file, or its log, ends early."""
+    size, taken, count = part.stat().st_size, 0, 0
+    # a log has much room that nothing was written to
+    for end in range(0, size, max(given.step, size // 100 // 512 * 512)):
+        with spoiled(file, part, lambda data, end=end: data.__delitem__(slice(end, None))) as copy:
+            taken += serves_truly(given, copy, seen, known)
+            count += 1
+    print(f"damaged: {part.name} of {size} bytes, cut at {count} places: {taken} are taken, and the others refused", flush=True)
+
+
+def change_bits(given: argparse.Namespace, file: Path, part: Path, seen: dict[bytes, list[State]], known: Known) -> None:
+    """One to three bits of the file, or of its log, are changed."""
+    dice, taken = random.Random(given.seed), 0
+
+    def change(data: bytearray) -> None:
+        for _ in range(dice.randrange(1, 4)):
+            data[dice.randrange(len(data))] ^= 1 << dice.randrange(8)
+
+    if not part.stat().st_size:
+        return
+    for _ in range(given.bits):
+        with spoiled(file, part, change) as copy:
+            taken += serves_truly(given, copy, seen, known)
+    print(f"damaged: {part.name}, with changed bits {given.bits} times: {taken} are taken, and the others refused", flush=True)
+
+
+def hindered(given: argparse.Namespace, folder: Path) -> None:
+    """What keeps a server from saving is told once, and the server goes on."""
+    file, known = folder / "map.db", Known()
+    make_saved(given, file, known)
+    second_server(given, file)
+    check_all(given, file, SAVED, known)
+    if os.getuid() == 0:
+        not_writable(given, file)
+        check_all(given, file, SAVED, known)
+    full_disk(given, folder / "full.db")
+    removed(given, folder / "removed.db")
+
+
+def second_server(given: argparse.Namespace, file: Path) -> None:
+    """A second server on the same file is refused, and the first one goes on."""
+    with kept(given.program, file) as server:
+        try:
+            Kept(given.program, file).kill()
+        except NotStarted as refused:
+            same("the status of a second server", (refused.status, bool(refused.lines)), (3, True))
+        else:
+            raise Wrong("two servers have one file")
+        with resp.Client(server.redis) as client:
+            same("SAVE beside it", client.ask("SAVE"), resp.OK)
+
+
+def not_writable(given: argparse.Namespace, file: Path) -> None:
+    """A server that may only read the file is refused. (Nobody may look into the folder of the repository, so the program is copied.)"""
+    program = Path(shutil.copy(given.program, file.parent / "mapd"))
+    program.chmod(0o755)
+    file.chmod(0o444)
+    try:
+        Kept(program, file, limit=lambda: os.setuid(NOBODY)).kill()
+    except NotStarted as refused:
+        same("the status of one that may only read", (refused.status, bool(refused.lines)), (3, True))
+    else:
+        raise Wrong("a server takes a file that it can't write")
+    file.chmod(0o644)
+
+
+def ignore_limits() -> None:
+    """Has a process be told by an error that a file may not grow, and not be ended by a signal."""
+    signal.signal(signal.SIGXFSZ, signal.SIG_IGN)
+
+
+def bound_files(server: Kept, file: Path) -> None:
+    """Lets the server's files grow by 64 KiB at most."""
+    size = max(part.stat().st_size for part in (file, log_of(file)) if part.exists())
+    resource.prlimit(server.process.pid, resource.RLIMIT_FSIZE, (size + (64 << 10), resource.RLIM_INFINITY))
+
+
+def full_disk(given: argparse.Namespace, file: Path) -> None:
+    """The disk is full: it is told once, clients go on, and what they did is saved when there is room again."""
+    large: Changes = {b"large %d" % number: State(b"%d" % number * 100) for number in range(given.large)}
+    with kept(given.program, file, limit=ignore_limits) as server:
+        bound_files(server, file)
+        fill(server, large)
+        with resp.Client(server.redis) as client:
+            same("SAVE on a full disk is refused", client.ask("SAVE")[:1], b"-")
+            time.sleep(2.5)
+            same("a SET meanwhile", client.ask("SET", "meanwhile", "x"), resp.OK)
+            same("the number of lines that tell of it", sum("saves fail" in line for line in server.lines), 1)
+            resource.prlimit(server.process.pid, resource.RLIMIT_FSIZE, (resource.RLIM_INFINITY, resource.RLIM_INFINITY))
+            time.sleep(2.5)
+            client.ask("SAVE")
+            same("SAVE when there is room", client.ask("SAVE"), resp.OK)
+        server.kill()
+    check_by_sqlite(file)
+    check_all(given, file, {**large, b"meanwhile": State(b"x")}, Known())
+
+
+def removed(given: argparse.Namespace, file: Path) -> None:
+    """The file is removed while the server runs: the server goes on, and ends."""
+    with kept(given.program, file) as server:
+        file.unlink()
+        with resp.Client(server.redis) as client:
+            for count in range(3):
+                same("SET", client.ask("SET", "key", count), resp.OK)
+                client.ask("SAVE")
+            same("GET", client.ask("GET", "key"), resp.value(b"2"))
+            client.send("SHUTDOWN")
+            client.rest()
+        server.finish()
+
+
+def asked(given: argparse.Namespace, folder: Path) -> None:
+    """The commands of Redis that save."""
+    file = folder / "map.db"
+    with kept(given.program, file, "--keep-seconds", "3600") as server, resp.Client(server.redis) as client:
+        begun = int(time.time())
+        client.ask("SET", "a", "1")
+        same("SAVE", client.ask("SAVE"), resp.OK)
+        last = int(client.ask("LASTSAVE")[1:])
+        same("LASTSAVE is the time of the save", begun <= last <= time.time(), True)
+        same("the entries by SQL", entries_by_sql(file), {b"a": State(b"1")})
+        time.sleep(1.1)
+        client.ask("SET", "b", "2")
+        same("BGSAVE", client.ask("BGSAVE"), b"+Background saving started\r\n")
+        until = time.monotonic() + wire.PATIENCE
+        while int(client.ask("LASTSAVE")[1:]) == last:
+            same("BGSAVE ends in time", time.monotonic() < until, True)
+            time.sleep(0.02)
+        same("the entries by SQL", entries_by_sql(file), {b"a": State(b"1"), b"b": State(b"2")})
+        same("a wrong word", client.ask("SHUTDOWN", "NOW-OR-NEVER")[:1], b"-")
+        same("it still serves", client.ask("GET", "b"), resp.value(b"2"))
+        server.kill()
+    check_all(given, file, {b"a": State(b"1"), b"b": State(b"2")}, Known())
+
+
+PARTS = {part.__name__: part for part in (killed, ended, damaged, hindered, asked)}
+
+
+def main() -> int:
+    parser = argparse.ArgumentParser(description=__doc__.splitlines()[0])
+    parser.add_argument("--program", type=Path, default=wire.SERVER, help="the server to try")
+    parser.add_argument("--rounds", type=int, default=20, help="how often a server is killed")
+    parser.add_argument("--bits", type=int, default=40, help="how often bits of a file are changed")
+    parser.add_argument("--step", type=int, default=512, help="the bytes between two places at which a file is cut")
+    parser.add_argument("--large", type=int, default=5000, help="how many large entries are to find the disk full")
+    parser.add_argument("--seed", type=int, default=1, help="where the dice begin")
+    parser.add_argument("part", nargs="*", help=f"these parts alone: {', '.join(PARTS)}")
+    given = parser.parse_args()
+    parts = given.part or (["killed"] if is_redis(given.program) else list(PARTS))
+    for name in parts:
+        with tempfile.TemporaryDirectory() as folder:
+            Path(folder).chmod(0o755)
+            begun = time.monotonic()
+            PARTS[name](given, Path(folder))
+            print(f"keeping: {name} holds, in {time.monotonic() - begun:.0f} s", flush=True)
+    return 0
+
+
+if __name__ == "__main__":
+    sys.exit(main())
