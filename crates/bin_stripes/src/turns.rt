@@ -2,12 +2,10 @@
 //! millisecond, it starves: while somebody starves at a stripe, nobody else takes it. Go's `sync.Mutex` does the same, but keeps those
 //! who starve in order. No contract speaks of this: a stripe belongs to the pass that changed its word.
 
-use std::array;
-use std::hint;
 use std::sync::Wait;
 use std::sync::atomic::{AtomicU64, Ordering};
-use std::thread;
 use std::time::Duration;
+use std::{array, hint, thread};
 
 /// A map has at most this many stripes.
 const STRIPES: usize = 64;
