@@ -221,6 +221,7 @@ impl<H: Wait + Clock, E: Sink> Saver<'_, '_, '_, '_, '_, H, E> {
     {
         let entrance = self.entrance;
         let (rt, state) = (entrance.arrivals.rt, entrance.state);
+        state.saver_began();
         let period = Duration::from_secs(kept.seconds);
         let mut stopwatch = Stopwatch::new(rt);
         let mut next = period;

@@ -73,6 +73,11 @@ impl ServerState {
         self.began
     }
 
+    /// A thread saves from now on, whenever somebody asks for it.
+    pub fn saver_began(&self) {
+        self.saves.begin();
+    }
+
     /// Asks for a save, and returns its ticket.
     pub fn ask_save(&self) -> u64 {
         self.saves.ask()
@@ -110,7 +115,7 @@ impl ServerState {
         self.saves.last_save()
     }
 
-    /// Waits for this ticket's save, a minute at most, and returns what came of it.
+    /// Waits for this ticket's save, a minute at most, or a second if no thread saves. Returns what came of it.
     pub fn wait_for_save<H: Wait>(&self, rt: &H, ticket: u64) -> SaveFate {
         self.saves.wait_for(rt, ticket)
     }
