@@ -67,7 +67,8 @@ frames_more old new held next piece written exchanges answers talked =
 
 commands_more : (x : Exchange Station) (talk next : TalkState) (exchanges : List (Exchange Station)) → AnswersCommands talk x next
     → Talked exchanges (Commands talk) → Talked (exchanges ++ x ∷ []) (Commands next)
-commands_more x talk next exchanges answers (number, each) = (number, each_on (begun number) talk next exchanges (x ∷ []) each (next, answers, refl))
+commands_more x talk next exchanges answers (number, password, each) =
+    (number, password, each_on (begun number password) talk next exchanges (x ∷ []) each (next, answers, refl))
 
 open_of : (held : Held) → held_fault held ≡ None → IsOpen (Frames held)
 open_of (open_at hello rest) is = (hello, rest, refl)

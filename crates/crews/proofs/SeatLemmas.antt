@@ -38,13 +38,13 @@ abbrev pub arrived : {C : Type 0} → C → Protocol → Arrival C
 arrived channel protocol = record { channel = channel; protocol = protocol }
 
 -- a talk that begins is in its protocol, and nothing was said in it
-begins_in : (number : ℕ) (protocol : Protocol) → protocol_of (begins_so number protocol) ≡ protocol
-begins_in number protocols.Frames = refl
-begins_in number protocols.Commands = refl
+begins_in : (number : ℕ) (password : Option (List ℕ)) (protocol : Protocol) → protocol_of (begins_so number password protocol) ≡ protocol
+begins_in number password protocols.Frames = refl
+begins_in number password protocols.Commands = refl
 
-begins_saying : (number : ℕ) (protocol : Protocol) → SaysSo None (begins_so number protocol) [] [] []
-begins_saying number protocols.Frames = ((None, [], refl), record { talked = refl; read_is = refl; said_is = refl })
-begins_saying number protocols.Commands = (refl, record { talked = (number, refl); read_is = refl; said_is = refl })
+begins_saying : (number : ℕ) (password : Option (List ℕ)) (protocol : Protocol) → SaysSo None (begins_so number password protocol) [] [] []
+begins_saying number password protocols.Frames = ((None, [], refl), record { talked = refl; read_is = refl; said_is = refl })
+begins_saying number password protocols.Commands = (refl, record { talked = (number, password, refl); read_is = refl; said_is = refl })
 
 module _ {C : Type 0} (state : C → ChannelState) (gave : PassState → C → Protocol → Type 0) where
   -- the client leaves its seat
@@ -181,17 +181,17 @@ module _ {C : Type 0} (state : C → ChannelState) (gave : PassState → C → P
   nothing_written : (came : Arrival C) (now : C) → state now ≡ state came.channel → Appends (state came.channel).held (state now).held []
   nothing_written came now same = subst (λ (s : ChannelState). Appends (state came.channel).held s.held []) (sym same) (Appends-nil (state came.channel).held)
 
-  pub new_stands : (registry : Registry) (number : ℕ) (came : Arrival C) (now : C) → state now ≡ state came.channel
-      → Stands state came now [] (no_tokens registry) (begins_so number came.protocol) (record { rest = []; failures = 0 }) None
-  new_stands registry number came now same = record {
-    speaks = begins_in number came.protocol;
+  pub new_stands : (registry : Registry) (number : ℕ) (password : Option (List ℕ)) (came : Arrival C) (now : C) → state now ≡ state came.channel
+      → Stands state came now [] (no_tokens registry) (begins_so number password came.protocol) (record { rest = []; failures = 0 }) None
+  new_stands registry number password came now same = record {
+    speaks = begins_in number password came.protocol;
     read = [];
     written = [];
     consumed = nothing_read came now same;
     appended = nothing_written came now same;
     registry = registry;
     keeps = refl;
-    says = begins_saying number came.protocol;
+    says = begins_saying number password came.protocol;
     unfailed = λ is. refl;
   }
 
@@ -210,14 +210,14 @@ module _ {C : Type 0} (state : C → ChannelState) (gave : PassState → C → P
   }
 
   -- so it stands among the turns so far, of which none is its own
-  first_stands : (registry : Registry) (turns : List Turn) (n number : ℕ) (came : Arrival C) (now : C) → exchanges_of n turns ≡ [] → state now ≡ state came.channel
-      → Stands state came now (exchanges_of n turns) (no_tokens registry) (begins_so number came.protocol) (record { rest = []; failures = 0 }) None
-  first_stands registry turns n number came now none same =
-      subst (λ (es : List (Exchange Station)). Stands state came now es (no_tokens registry) (begins_so number came.protocol) (record { rest = []; failures = 0 }) None) (sym none) (new_stands registry number came now same)
+  first_stands : (registry : Registry) (turns : List Turn) (n number : ℕ) (password : Option (List ℕ)) (came : Arrival C) (now : C) → exchanges_of n turns ≡ [] → state now ≡ state came.channel
+      → Stands state came now (exchanges_of n turns) (no_tokens registry) (begins_so number password came.protocol) (record { rest = []; failures = 0 }) None
+  first_stands registry turns n number password came now none same =
+      subst (λ (es : List (Exchange Station)). Stands state came now es (no_tokens registry) (begins_so number password came.protocol) (record { rest = []; failures = 0 }) None) (sym none) (new_stands registry number password came now same)
 
-  pub one_more_lives : (registry : Registry) (old : Known) (turns : List Turn) (new : Known) (n number : ℕ) (came : Arrival C) (now : C) → Life state gave old turns new n → gave new.pass came.channel came.protocol → state now ≡ state came.channel
+  pub one_more_lives : (registry : Registry) (old : Known) (turns : List Turn) (new : Known) (n number : ℕ) (password : Option (List ℕ)) (came : Arrival C) (now : C) → Life state gave old turns new n → gave new.pass came.channel came.protocol → state now ≡ state came.channel
       → Life state gave old turns new (n + 1)
-  one_more_lives registry old turns new n number came now life given same = record {
+  one_more_lives registry old turns new n number password came now life given same = record {
     moves = life.moves;
     each = λ i below. elim (cases_eq n i) [
       | inl here ↦ subst (λ (j : ℕ). IsOfClient state gave old turns new j) here own
@@ -231,11 +231,11 @@ module _ {C : Type 0} (state : C → ChannelState) (gave : PassState → C → P
       came,
       now,
       no_tokens registry,
-      begins_so number came.protocol,
+      begins_so number password came.protocol,
       record { rest = []; failures = 0 },
       None,
       comes_now old turns new n came life.moves given (life.no_other n (omega arith)),
-      first_stands registry turns n number came now (life.no_other n (omega arith)) same,
+      first_stands registry turns n number password came now (life.no_other n (omega arith)) same,
     )
 
   pub more_seated : (old : Known) (turns : List Turn) (new : Known) (n : ℕ) (seats : Slab (Client C)) → Seated state gave old turns new n seats → Seated state gave old turns new (n + 1) seats
@@ -323,13 +323,13 @@ module _ {C : Type 0} (state : C → ChannelState) (gave : PassState → C → P
     moves = (swept, known_same new (record { pass = new.pass; team = mid.team }) refl team)
 
   -- a client comes, and takes a seat
-  pub one_comes : (registry : Registry) (old : Known) (turns : List Turn) (new : Known) (n number : ℕ) (seats room after : Slab (Client C)) (seat : ℕ) (came : Arrival C) (now : C) (talk : Talk) (client : Client C) → gave new.pass came.channel came.protocol
-      → state now ≡ state came.channel → talk ≡ begins_so number came.protocol
+  pub one_comes : (registry : Registry) (old : Known) (turns : List Turn) (new : Known) (n number : ℕ) (password : Option (List ℕ)) (seats room after : Slab (Client C)) (seat : ℕ) (came : Arrival C) (now : C) (talk : Talk) (client : Client C) → gave new.pass came.channel came.protocol
+      → state now ≡ state came.channel → talk ≡ begins_so number password came.protocol
       → client ≡ record { number = n; channel = now; talk = talk; tokens = no_tokens registry; owed = record { rest = []; failures = 0 }; leaving = None }
       → room ≡ record seats { capacity = room.capacity } → Updates room after seat (Some client)
       → IsAttended state gave old turns new n seats → IsAttended state gave old turns new (n + 1) after
-  one_comes registry old turns new n number seats room after seat came now talk client given same begins is grown updates (life, seated) = (
-    one_more_lives registry old turns new n number came now life given same,
+  one_comes registry old turns new n number password seats room after seat came now talk client given same begins is grown updates (life, seated) = (
+    one_more_lives registry old turns new n number password came now life given same,
     takes_seat old turns new (n + 1) seats after seat client (more_seated old turns new n seats seated) none stands (record {
       changed = updates.changed;
       others = λ other differ. updates.others other differ ∙ ap (λ (s : Slab (Client C)). get s other) grown;
@@ -340,7 +340,7 @@ module _ {C : Type 0} (state : C → ChannelState) (gave : PassState → C → P
 
     stands : IsClient state gave old turns new (n + 1) client
     stands = subst (λ (c : Client C). IsClient state gave old turns new (n + 1) c) (sym is)
-        (omega arith, (came, comes_now old turns new n came life.moves given (life.no_other n (omega arith)), subst (λ (t : Talk). Stands state came now (exchanges_of n turns) (no_tokens registry) t (record { rest = []; failures = 0 }) None) (sym begins) (first_stands registry turns n number came now (life.no_other n (omega arith)) same)))
+        (omega arith, (came, comes_now old turns new n came life.moves given (life.no_other n (omega arith)), subst (λ (t : Talk). Stands state came now (exchanges_of n turns) (no_tokens registry) t (record { rest = []; failures = 0 }) None) (sym begins) (first_stands registry turns n number password came now (life.no_other n (omega arith)) same)))
 
   -- nothing was told to it
   told_none : (pass : PassState) (came : Arrival C) (now next : C) → gave pass came.channel came.protocol → state now ≡ state came.channel → Keeps (state now).left (state next).left → Keeps (state now).held (state next).held

@@ -23,7 +23,7 @@ use devices::{Channel, Sent};
 use program_registry::Registry;
 use redis_scripts::Scripts;
 use redis_service::{NO_ROOM_LINE, RedisDesk};
-use server_state::ServerState;
+use server_state::{Password, ServerState};
 use sessions::Conversation;
 use slab::Slab;
 use std::alloc::Global;
@@ -33,12 +33,13 @@ use std::thread::Threads;
 /// No map has passes for more workers.
 const MOST_WORKERS: u64 = 64;
 
-/// What a worker has at hand: the registry of programs, the room of all turns, the clients in their seats, how many came, and whether
-/// its last sweep left entries whose time is over.
+/// What a worker has at hand: the registry of programs, the password that clients of commands have to show, the room of all turns, the
+/// clients in their seats, how many came, and whether its last sweep left entries whose time is over.
 #[derive(Drop)]
 struct Attendant<'a, 'r, C> {
     alloc: Global,
     registry: &'a Registry,
+    password: Option<&'a Password>,
     room: Room<'a, 'r>,
     seats: Slab<Client<'a, C>>,
     came: u64,
@@ -101,7 +102,7 @@ impl<'a, 'r, C: Channel + Drop> Attendant<'a, 'r, C> {
         let Ok(()) = clients.watch(seat, &mut channel) else {
             return turn_away(clients, self.room.serving.pass(), channel, protocol);
         };
-        let talk = Talk::new(self.alloc, self.next_number(), protocol);
+        let talk = Talk::new(self.alloc, self.next_number(), self.password, protocol);
         let client = Client::new(self.alloc, self.came, self.registry, channel, talk);
         let _ = self.seats.insert_reserved(client);
         self.came = came;
@@ -294,6 +295,7 @@ fn begun<'a, 'r, H, C: Channel + Drop, G>(
     Attendant {
         alloc: worker.alloc,
         registry: worker.registry,
+        password: state.password(),
         room: Room {
             number,
             serving,

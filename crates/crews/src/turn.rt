@@ -32,7 +32,7 @@ const OWED_BYTES: usize = 65536;
 pub struct Client<'a, C> {
     pub number: u64,
     pub channel: C,
-    pub talk: Talk,
+    pub talk: Talk<'a>,
     pub tokens: Tokens<'a>,
     pub owed: Owed,
     pub leaving: Option<Parting>,
@@ -48,7 +48,7 @@ fn standing_after_piece(count: usize) -> Standing {
 }
 
 /// The time of the commands of a client that talks so. Frames have no use for it, and any will do.
-fn time_of<C: Channel, P: Clients<C>>(clients: &mut P, talk: &Talk) -> u64
+fn time_of<C: Channel, P: Clients<C>>(clients: &mut P, talk: &Talk<'_>) -> u64
     ensures { CountGoes P.there clients.old 0 clients.new 0 }
 {
     match talk {
@@ -77,7 +77,7 @@ impl<'a, C: Channel> Client<'a, C> {
         number: u64,
         registry: &'a Registry,
         channel: C,
-        talk: Talk,
+        talk: Talk<'a>,
     ) -> Client<'a, C>
         ensures { result ≡ record {
           number = number;

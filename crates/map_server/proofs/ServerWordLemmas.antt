@@ -161,7 +161,8 @@ module _ (wanted : Bool) where
   only_listen (suc (suc (suc (suc (suc (suc (suc (suc (suc zero))))))))) r s lt same = absurd (true≢false (sym same))
   only_listen (suc (suc (suc (suc (suc (suc (suc (suc (suc (suc zero)))))))))) r s lt same = absurd (true≢false (sym same))
   only_listen (suc (suc (suc (suc (suc (suc (suc (suc (suc (suc (suc zero))))))))))) r s lt same = absurd (true≢false (sym same))
-  only_listen (suc (suc (suc (suc (suc (suc (suc (suc (suc (suc (suc (suc j)))))))))))) r s lt same = absurd (omega arith)
+  only_listen (suc (suc (suc (suc (suc (suc (suc (suc (suc (suc (suc (suc zero)))))))))))) r s lt same = absurd (true≢false (sym same))
+  only_listen (suc (suc (suc (suc (suc (suc (suc (suc (suc (suc (suc (suc (suc j))))))))))))) r s lt same = absurd (omega arith)
 
   only_workers : IsOnly 3
   only_workers zero r s lt same = absurd (true≢false (sym same))
@@ -176,7 +177,8 @@ module _ (wanted : Bool) where
   only_workers (suc (suc (suc (suc (suc (suc (suc (suc (suc zero))))))))) r s lt same = absurd (true≢false (sym same))
   only_workers (suc (suc (suc (suc (suc (suc (suc (suc (suc (suc zero)))))))))) r s lt same = absurd (true≢false (sym same))
   only_workers (suc (suc (suc (suc (suc (suc (suc (suc (suc (suc (suc zero))))))))))) r s lt same = absurd (true≢false (sym same))
-  only_workers (suc (suc (suc (suc (suc (suc (suc (suc (suc (suc (suc (suc j)))))))))))) r s lt same = absurd (omega arith)
+  only_workers (suc (suc (suc (suc (suc (suc (suc (suc (suc (suc (suc (suc zero)))))))))))) r s lt same = absurd (true≢false (sym same))
+  only_workers (suc (suc (suc (suc (suc (suc (suc (suc (suc (suc (suc (suc (suc j))))))))))))) r s lt same = absurd (omega arith)
 
   only_team : IsOnly 4
   only_team zero r s lt same = absurd (true≢false (sym same))
@@ -191,7 +193,8 @@ module _ (wanted : Bool) where
   only_team (suc (suc (suc (suc (suc (suc (suc (suc (suc zero))))))))) r s lt same = absurd (true≢false (sym same))
   only_team (suc (suc (suc (suc (suc (suc (suc (suc (suc (suc zero)))))))))) r s lt same = absurd (true≢false (sym same))
   only_team (suc (suc (suc (suc (suc (suc (suc (suc (suc (suc (suc zero))))))))))) r s lt same = absurd (true≢false (sym same))
-  only_team (suc (suc (suc (suc (suc (suc (suc (suc (suc (suc (suc (suc j)))))))))))) r s lt same = absurd (omega arith)
+  only_team (suc (suc (suc (suc (suc (suc (suc (suc (suc (suc (suc (suc zero)))))))))))) r s lt same = absurd (true≢false (sym same))
+  only_team (suc (suc (suc (suc (suc (suc (suc (suc (suc (suc (suc (suc (suc j))))))))))))) r s lt same = absurd (omega arith)
 
   only_clients : IsOnly 6
   only_clients zero r s lt same = absurd (true≢false (sym same))
@@ -206,7 +209,8 @@ module _ (wanted : Bool) where
   only_clients (suc (suc (suc (suc (suc (suc (suc (suc (suc zero))))))))) r s lt same = absurd (true≢false (sym same))
   only_clients (suc (suc (suc (suc (suc (suc (suc (suc (suc (suc zero)))))))))) r s lt same = absurd (true≢false (sym same))
   only_clients (suc (suc (suc (suc (suc (suc (suc (suc (suc (suc (suc zero))))))))))) r s lt same = absurd (true≢false (sym same))
-  only_clients (suc (suc (suc (suc (suc (suc (suc (suc (suc (suc (suc (suc j)))))))))))) r s lt same = absurd (omega arith)
+  only_clients (suc (suc (suc (suc (suc (suc (suc (suc (suc (suc (suc (suc zero)))))))))))) r s lt same = absurd (true≢false (sym same))
+  only_clients (suc (suc (suc (suc (suc (suc (suc (suc (suc (suc (suc (suc (suc j))))))))))))) r s lt same = absurd (omega arith)
 
   only_keep_seconds : IsOnly 10
   only_keep_seconds zero r s lt same = absurd (true≢false (sym same))
@@ -221,7 +225,8 @@ module _ (wanted : Bool) where
   only_keep_seconds (suc (suc (suc (suc (suc (suc (suc (suc (suc zero))))))))) r s lt same = absurd (true≢false (sym same))
   only_keep_seconds (suc (suc (suc (suc (suc (suc (suc (suc (suc (suc zero)))))))))) r s lt same = refl
   only_keep_seconds (suc (suc (suc (suc (suc (suc (suc (suc (suc (suc (suc zero))))))))))) r s lt same = absurd (true≢false (sym same))
-  only_keep_seconds (suc (suc (suc (suc (suc (suc (suc (suc (suc (suc (suc (suc j)))))))))))) r s lt same = absurd (omega arith)
+  only_keep_seconds (suc (suc (suc (suc (suc (suc (suc (suc (suc (suc (suc (suc zero)))))))))))) r s lt same = absurd (true≢false (sym same))
+  only_keep_seconds (suc (suc (suc (suc (suc (suc (suc (suc (suc (suc (suc (suc (suc j))))))))))))) r s lt same = absurd (omega arith)
 
 plain_arg : (a : Arg) → is_simple_arg a ≡ true → is_free_arg a ≡ true → IsPlainArg a
 plain_arg a simple free =

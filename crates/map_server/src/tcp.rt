@@ -20,7 +20,7 @@ use crews::{Crew, Worker};
 use devices::Sink;
 use map_keeper::Shared;
 use mio::{Poll, Waker};
-use server_state::ServerState;
+use server_state::{Password, ServerState};
 use std::alloc::Global;
 use std::io;
 use std::net::Net;
@@ -81,7 +81,8 @@ pub(crate) fn bind<'a, H: Net>(
     })
 }
 
-/// The crews that serve, each with a poll, and how many sessions they may begin, to how many clients at once.
+/// The crews that serve, each with a poll, how many sessions they may begin, to how many clients at once, and the password that clients
+/// of commands have to show.
 #[derive(Drop)]
 pub(crate) struct Ready {
     pub(crate) crews: Vec<Crew>,
@@ -89,11 +90,18 @@ pub(crate) struct Ready {
     pub(crate) gates: Gates,
     pub(crate) quotas: Quotas,
     pub(crate) limits: Limits,
+    pub(crate) password: Option<Password>,
 }
 
 impl Ready {
     /// These crews, at what is bound.
-    pub(crate) fn new(bound: Bound, crews: Vec<Crew>, quotas: Quotas, limits: Limits) -> Ready
+    pub(crate) fn new(
+        bound: Bound,
+        crews: Vec<Crew>,
+        quotas: Quotas,
+        limits: Limits,
+        password: Option<Password>,
+    ) -> Ready
         ensures crews { result.crews ≡ crews }
         ensures polls { result.polls ≡ bound.polls }
     {
@@ -104,6 +112,7 @@ impl Ready {
             gates,
             quotas,
             limits,
+            password,
         }
     }
 }
@@ -193,7 +202,9 @@ pub(crate) fn serve_ports<'a, H: Threads + Wait + Clock + Sync, E: Sink + Send>(
         gates,
         quotas,
         limits,
+        password,
     } = ready;
+    let state = state.with_password(password);
     let entrance = Entrance::new(
         Arrivals::new(rt, alloc, limits, errors),
         &state,

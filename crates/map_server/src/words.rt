@@ -43,6 +43,8 @@ pub struct MapdWords {
     pub keep: Option<String>,
     /// How many seconds it is from one save to the next.
     pub keep_seconds: u64,
+    /// The file whose first line is the password that clients of Redis have to show; none: they needn't.
+    pub password_file: Option<String>,
 }
 
 impl MapdWords {
@@ -284,6 +286,13 @@ fn mapd_command<'a>(alloc: Global, wanted: bool) -> Result<clap::Command<'a>, Al
             "MIB",
             value_parser!(u16).range(1..=65535),
             "MiB of entries and sessions, 1 to 65535; past it a new key is refused with 9 [default: no bound]",
+        ))?
+        .arg(text_option(
+            alloc,
+            "password-file",
+            "FILE",
+            false,
+            "File whose first line is the password that clients of Redis have to show [default: none]",
         ))
 }
 
@@ -332,6 +341,7 @@ fn words_of(alloc: Global, matches: &ArgMatches<'_>) -> Result<MapdWords, NoMemo
         memory: widened(given_number(matches, "memory")),
         keep: given_text(alloc, matches, "keep")?,
         keep_seconds: u64::from(given_size(matches, "keep-seconds", KEEP_SECONDS_DEFAULT)),
+        password_file: given_text(alloc, matches, "password-file")?,
     })
 }
 

@@ -1,4 +1,5 @@
 use Rattle.std.proofs.Common.{◌≡◌, ℕ, ◌+◌, refl, sym, ap, subst, arith}
+use Rattle.server_state.specs.Passwords.{lent}
 use Rattle.bin_stripes.specs.Passes.{PassState}
 use Rattle.slab.specs.Slab.{slab_len}
 use Rattle.crews.specs.Lives.{known}
@@ -56,5 +57,5 @@ returns-clause-attended g c old turns attended =
     let s = c.args.self.now in
     let one : c.in-Some.came ≡ s.came + 1 = omega (arith, c.in-Some.ensures) in
     subst (λ (n : ℕ). IsAttended g.C.Channel.state g.P.Clients.gave old turns (known s.room.serving) n c.insert_reserved.new.self) (sym one)
-    (one_comes g.C.Channel.state g.P.Clients.gave s.registry.now old turns (known s.room.serving) s.came c.next_number.result s.seats c.reserve.new.self c.insert_reserved.new.self c.insert_reserved.result (arrived c.args.channel c.args.protocol) c.watch.new.channel c.new-talk.result c.new-client.result
+    (one_comes g.C.Channel.state g.P.Clients.gave s.registry.now old turns (known s.room.serving) s.came c.next_number.result (lent s.password) s.seats c.reserve.new.self c.insert_reserved.new.self c.insert_reserved.result (arrived c.args.channel c.args.protocol) c.watch.new.channel c.new-talk.result c.new-client.result
     c.requires c.watch.ensures.channel c.new-talk.ensures c.new-client.ensures c.reserve.ensures.rest_kept c.insert_reserved.ensures.updates attended)
