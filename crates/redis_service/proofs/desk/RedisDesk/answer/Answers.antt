@@ -34,6 +34,6 @@ returns-in-Err-clause-answers g c =
       sends,
       (
         subst (λ (r : Result Asked Fault). AnswersRead now talk old r w next old) c.in-Err.ensures.asked answers,
-        refused_guards talk next old _ c.refuse.ensures.locked,
+        refused_guards talk next old (read_of now (is_authenticated talk) (texts c.args.words.now)) c.refuse.ensures.locked,
       ),
     )
