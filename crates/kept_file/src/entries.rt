@@ -1,15 +1,18 @@
 //! The entries of a file, read one after the other.
-ghost use Rattle.std.specs.Prelude.{◌≡◌, ◌<◌, Some, IsTrue, IfOk, OnOk};
+ghost use Rattle.std.specs.Prelude.{◌≡◌, ◌<◌, [], Some, IsTrue, IfOk, OnOk};
 ghost use Rattle.sqlite.specs.Given.{row_if};
+ghost use Rattle.sqlite.specs.Held.{state};
+ghost use Rattle.sqlite.specs.State.{HasCleanDisk, Survives};
+ghost use Rattle.kept_file.specs.Reading.{HandedOut, HandsOut};
 ghost use Rattle.kept_file.specs.Rows.{entry_row};
 
 use crate::fault::{KeepFault, read_fault};
-use crate::query::{bytes_at, number_at, number_or_none_at};
+use crate::query::{bytes_at, number_at, number_or_none_at, setting};
 use bpf_model::limits::{KEY_BYTES, VALUE_BYTES};
 use bpf_model::{Key, Value};
 use sqlite::{Alter, Connection, Row, Rows};
 
-const ENTRIES: &str = "SELECT stripe, key, value, deadline FROM entries";
+pub(crate) const ENTRIES: &str = "SELECT stripe, key, value, deadline FROM entries";
 
 const COLUMNS: usize = 4;
 
@@ -64,10 +67,13 @@ pub struct Entries<'file, S: Alter> {
 }
 
 impl<'file, S: Alter> Entries<'file, S> {
-    pub(crate) fn new(
-        conn: &'file mut Connection<S>,
-        stripes: u64,
-    ) -> Result<Entries<'file, S>, KeepFault> {
+    /// Begins to read the entries of the file that is connected so. The faults of `next`.
+    pub fn of(conn: &'file mut Connection<S>) -> Result<Entries<'file, S>, KeepFault>
+        ensures same_reference { IfOk result (λ entries. entries.rows.conn.ghost_name ≡ conn.entry.ghost_name) }
+        ensures begun { IfOk result (λ entries. HasCleanDisk (state S.Store entries.rows.conn.now) → HandedOut S.Store conn.old entries.rows.conn.now []) }
+        ensures kept { IfOk result (λ entries. Survives (state S.Store conn.old) (state S.Store entries.rows.conn.now) (λ _. ⊥)) }
+    {
+        let stripes = setting(conn, "stripes")?;
         match conn.query(ENTRIES, &[]) {
             Ok(rows) => Ok(Entries { rows, stripes }),
             Err(error) => Err(read_fault(error)),
@@ -82,6 +88,9 @@ impl<'file, S: Alter> Entries<'file, S> {
             Some (entry_row entry.new.stripe entry.new.key entry.new.value entry.new.deadline)) }
         ensures stripe { IfOk result (λ found. IsTrue found → entry.new.stripe < self.new.stripes) }
         ensures same { self.new.stripes ≡ self.old.stripes }
+        ensures same_reference { self.new.rows.conn.ghost_name ≡ self.old.rows.conn.ghost_name }
+        ensures hands { HasCleanDisk (state S.Store self.new.rows.conn.now) → IfOk result (λ found. HandsOut S.Store self.old.rows.conn.now self.new.rows.conn.now found entry.new) }
+        ensures kept { Survives (state S.Store self.old.rows.conn.now) (state S.Store self.new.rows.conn.now) (λ _. ⊥) }
     {
         self.rows.advance().map_err(read_fault)?;
         let Some(row) = self.rows.get() else {
