@@ -17,8 +17,9 @@ use Rattle.sqlite_trees.specs.declared.error.StoreError.{StoreError}
 use Rattle.sqlite_trees.specs.declared.error.StoreError.TheVariants.{OutOfMemory, Io, Corrupt, Full, Broken, Unstorable}
 use Rattle.sqlite_resolve.specs.declared.error.CompileError.{CompileError}
 use Rattle.sqlite_resolve.specs.declared.compiled.Compiled.{Compiled}
-use Rattle.kept_file.specs.Reading.{HandedOut, HandsOut, OnlyReads, row_of}
+use Rattle.kept_file.specs.Reading.{HandedOut, HandsOut, HasEntries, HasPrograms, HasScripts, OnlyReads, row_of, row_of_program}
 use Rattle.kept_file.specs.declared.entries.KeptEntry.{KeptEntry}
+use Rattle.kept_file.specs.declared.rows.KeptProgram.{KeptProgram}
 use Rattle.kept_file.specs.declared.entries.TheConstants.{ENTRIES}
 use Rattle.kept_file.specs.declared.rows.TheConstants.{PROGRAMS, SCRIPTS}
 use Rattle.kept_file.specs.declared.query.TheConstants.{SETTING}
@@ -152,3 +153,14 @@ module _ {S : Type 0} (g : store.Ghosts S) where
   hands_none old new entry advances start entries handed =
       shown_of ENTRIES.now [] (state g start) (state g old) (state g new) (map row_of entries) entries_read handed.1
       (advances ENTRIES.now [] (map row_of entries) handed.0)
+
+-- what a file has, it had before, if nothing has changed
+module _ (start file : State) (same : IsUnchanged start file) where
+  pub entries_before : (entries : List KeptEntry) → HasEntries file entries → HasEntries start entries
+  entries_before entries has = (shown_of ENTRIES.now [] start file file (map row_of entries) entries_read same has).0
+
+  pub programs_before : (programs : List KeptProgram) → HasPrograms file programs → HasPrograms start programs
+  programs_before programs has = (shown_of PROGRAMS.now [] start file file (map row_of_program programs) programs_read same has).0
+
+  pub scripts_before : (texts : List (List ℕ)) → HasScripts file texts → HasScripts start texts
+  scripts_before texts has = record { rows = has.rows; shown = (shown_of SCRIPTS.now [] start file file has.rows scripts_read same has.shown).0; texts_are = has.texts_are }
