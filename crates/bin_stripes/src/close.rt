@@ -11,6 +11,7 @@ ghost use Rattle.bin_stripes.specs.Closed.{Closes};
 use crate::map::StripedMap;
 use crate::pass::Pass;
 use crate::steps::{PassSeat, Stripes, bins_out, take_stripe};
+use crate::turns::Turns;
 use bins::{EntryList, sorted_copies};
 use bpf_model::{Key, NoMemory, Value};
 use noted_bins::NotedBins;
@@ -32,7 +33,14 @@ impl StripedMap {
         let stripes = self.table.slot_count();
         let Pass { mut known, .. } = pass;
         let mut seat = known.take();
-        let copies = entries_out(rt, alloc, &self.table.shared, &mut seat, stripes)?;
+        let copies = entries_out(
+            rt,
+            alloc,
+            &self.table.shared,
+            &mut seat,
+            stripes,
+            &self.turns,
+        )?;
         let found = sorted_copies(alloc, copies)?;
         Ok(found)
     }
@@ -45,6 +53,7 @@ fn entries_out<B: NotedBins + Drop, R: Wait>(
     table: &Stripes<B>,
     seat: &mut PassSeat<B>,
     stripes: usize,
+    turns: &Turns,
 ) -> Result<EntryList, NoMemory>
     requires table { IsLaid table.now.table_id table.now.key × (seat.old.table_id ≡ table.now.table_id) }
     requires stripes { stripes ≡ table.now.table_id.slots }
@@ -54,7 +63,7 @@ fn entries_out<B: NotedBins + Drop, R: Wait>(
 {
     let mut found = EntryList::new(alloc);
     for stripe in 0..stripes {
-        take_stripe(rt, table, seat, stripe);
+        take_stripe(rt, table, seat, stripe, turns);
         let bins = bins_out(table, seat, stripe);
         bins.copy_into(&mut found)?;
     }

@@ -18,6 +18,7 @@ use crate::pass::Pass;
 use crate::rule::{Shape, Striping};
 use crate::seats::{try_call, try_replace, try_scan};
 use crate::steps::take_stripe;
+use crate::turns::Turns;
 use atomic_methods::{Call, HashedCall, Reply, ReplyKind};
 use atomic_table::Table;
 use bins::{Counts, EntryList, HashedBins};
@@ -45,6 +46,7 @@ pub struct StripedMap {
         Striping<StripeBins>,
         Global,
     >,
+    pub(crate) turns: Turns,
 }
 
 impl Model for StripedMap {
@@ -201,7 +203,7 @@ impl StripedMap {
             timing,
         };
         let mut seat = pass.known.take();
-        take_stripe(rt, table, &mut seat, stripe);
+        take_stripe(rt, table, &mut seat, stripe, &self.turns);
         let answer = make_call(table, &mut seat, stripe, at, &mut pass.workspace, bytes);
         pass.known.put(seat);
         answer
@@ -219,7 +221,7 @@ impl StripedMap {
         let slot = stripe as usize;
         let table = &self.table.shared;
         let mut seat = pass.known.take();
-        take_stripe(rt, table, &mut seat, slot);
+        take_stripe(rt, table, &mut seat, slot, &self.turns);
         let expiry = make_expiry(table, &mut seat, slot, now);
         pass.known.put(seat);
         plain(&expiry)
@@ -245,7 +247,7 @@ impl StripedMap {
         let slot = stripe as usize;
         let table = &self.table.shared;
         let mut seat = pass.known.take();
-        take_stripe(rt, table, &mut seat, slot);
+        take_stripe(rt, table, &mut seat, slot, &self.turns);
         let answer = make_scan(alloc, table, &mut seat, slot);
         pass.known.put(seat);
         answer
@@ -270,7 +272,7 @@ impl StripedMap {
         let slot = stripe as usize;
         let table = &self.table.shared;
         let mut seat = pass.known.take();
-        take_stripe(rt, table, &mut seat, slot);
+        take_stripe(rt, table, &mut seat, slot, &self.turns);
         let answer = make_copies(table, &mut seat, slot, list);
         pass.known.put(seat);
         answer
@@ -309,7 +311,7 @@ impl StripedMap {
         let slot = stripe as usize;
         let table = &self.table.shared;
         let mut seat = pass.known.take();
-        take_stripe(rt, table, &mut seat, slot);
+        take_stripe(rt, table, &mut seat, slot, &self.turns);
         let count = make_count(table, &mut seat, slot);
         pass.known.put(seat);
         count
@@ -337,7 +339,7 @@ impl StripedMap {
         let slot = stripe as usize;
         let table = &self.table.shared;
         let mut seat = pass.known.take();
-        take_stripe(rt, table, &mut seat, slot);
+        take_stripe(rt, table, &mut seat, slot, &self.turns);
         let counts = make_replacements(
             table,
             &mut seat,

@@ -11,6 +11,7 @@ use crate::map::{StripeBins, StripedMap};
 use crate::pass::Pass;
 use crate::rule::{Deal, Shape};
 use crate::steps::{PassSeat, STRIPE_WORDS, Stripes};
+use crate::turns::Turns;
 use atomic_methods::{Workspace, is_stripe_count};
 use atomic_table::Table;
 use bins::{Opening, Seed};
@@ -115,7 +116,8 @@ fn opened(
         return Err(NoMemory);
     };
     let all = dealt(alloc, &table.shared, seat, passes)?;
-    Ok((StripedMap { table }, all))
+    let turns = Turns::new();
+    Ok((StripedMap { table, turns }, all))
 }
 
 /// Makes the words and the bins of the stripes of a new map.

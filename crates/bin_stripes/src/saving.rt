@@ -51,7 +51,7 @@ impl StripedMap {
         let slot = stripe as usize;
         let table = &self.table.shared;
         let mut seat = pass.known.take();
-        take_stripe(rt, table, &mut seat, slot);
+        take_stripe(rt, table, &mut seat, slot, &self.turns);
         let answer = make_save(table, &mut seat, slot, how, changes);
         pass.known.put(seat);
         answer

@@ -11,11 +11,11 @@ ghost use Rattle.bin_stripes.specs.Holding.{IsLaid, Rests, Settles, SeatHolds};
 
 use crate::ghost_action::GhostAction;
 use crate::rule::{Look, May, Release, Shape, Striping, Take};
+use crate::turns::Turns;
 use atomic_table::{Seat, Shared};
 use noted_bins::NotedBins;
 use std::marker::Brand;
 use std::sync::Wait;
-use std::thread;
 use stripe_rule::View;
 
 /// A stripe has this many words and uses the first. They fill two lines of the cache, which processors fetch in pairs,
@@ -56,12 +56,13 @@ pub(crate) fn try_take_stripe<B: NotedBins + Drop>(
     table.compare_exchange::<Take<B>>(seat, stripe * STRIPE_WORDS, 0, 1) == 0
 }
 
-/// Takes the stripe. Waits until it is free.
+/// Takes the stripe. Waits until it is free, and until its turn has come.
 pub(crate) fn take_stripe<B: NotedBins + Drop, R: Wait>(
     rt: &R,
     table: &Stripes<B>,
     seat: &mut PassSeat<B>,
     stripe: usize,
+    turns: &Turns,
 )
     requires table { IsLaid table.now.table_id table.now.key × (seat.old.table_id ≡ table.now.table_id) }
     requires stripe { stripe < table.now.table_id.slots }
@@ -70,11 +71,13 @@ pub(crate) fn take_stripe<B: NotedBins + Drop, R: Wait>(
     ensures took { Takes (does table.now.table_id.slots) empty B.table (keeps B.table B.noted) stripe seat.old.me
         seat.new.me }
 {
+    let mut waiter = turns.come(stripe);
     for _ in rt.forever() {
-        if try_take_stripe(table, seat, stripe) {
+        if waiter.may_try() && try_take_stripe(table, seat, stripe) {
+            waiter.took();
             return;
         }
-        thread::yield_now();
+        waiter.rest(rt);
     }
     unreachable!()
 }

@@ -1,0 +1,96 @@
+//! Turns at a stripe. A thread that finds a stripe held lets others run, looks again, and sleeps if that didn't help. If it has waited
+//! for a millisecond, it starves: while somebody starves at a stripe, nobody else takes it. Go's `sync.Mutex` does the same, but keeps those
+//! who starve in order. No contract speaks of this: a stripe belongs to the pass that changed its word.
+
+use std::sync::Wait;
+use std::sync::atomic::{AtomicU64, Ordering};
+use std::time::Duration;
+use std::{array, thread};
+
+/// A map has at most this many stripes.
+const STRIPES: usize = 64;
+
+/// A thread that waits lets others run this often, and looks again each time.
+const YIELDS: u32 = 40;
+
+/// After that it sleeps for these times, in microseconds, and then it starves. The system adds some 50 to each.
+const NAPS: [u64; 4] = [50, 100, 200, 400];
+
+/// How many starve at each stripe of a map.
+#[derive(Drop)]
+pub(crate) struct Turns {
+    starving: [AtomicU64; STRIPES],
+}
+
+impl Turns {
+    /// Nobody starves.
+    pub(crate) fn new() -> Turns {
+        Turns {
+            starving: array::from_fn(|_| AtomicU64::new(0)),
+        }
+    }
+
+    /// A thread comes to a stripe.
+    #[inline(always)]
+    pub(crate) fn come(&self, stripe: usize) -> Waiter<'_> {
+        Waiter {
+            starving: &self.starving[stripe % STRIPES],
+            rests: 0,
+            starves: false,
+        }
+    }
+}
+
+/// A thread that wants a stripe: how often it has rested since it came, and whether it has waited for so long that others let it go first.
+#[derive(Drop)]
+pub(crate) struct Waiter<'a> {
+    starving: &'a AtomicU64,
+    rests: u32,
+    starves: bool,
+}
+
+impl Waiter<'_> {
+    /// Whether it may take the stripe if that is free.
+    #[inline(always)]
+    pub(crate) fn may_try(&self) -> bool {
+        self.starving.load(Ordering::Relaxed) == 0 || self.starves
+    }
+
+    /// It has the stripe.
+    #[inline(always)]
+    pub(crate) fn took(self) {
+        if self.starves {
+            self.starving.fetch_sub(1, Ordering::Relaxed);
+        }
+    }
+
+    /// Rests before it tries again.
+    #[cold]
+    pub(crate) fn rest<R: Wait>(&mut self, rt: &R) {
+        let rests = self.rests;
+        self.rests = rests.saturating_add(1);
+        if rests < YIELDS {
+            return thread::yield_now();
+        }
+        match NAPS.get((rests - YIELDS) as usize) {
+            Some(nap) => self.nap(rt, *nap),
+            None => self.starve(rt),
+        }
+    }
+
+    /// It has waited for long: others let it go first from now on. Sleeps for a short time.
+    fn starve<R: Wait>(&mut self, rt: &R) {
+        if !self.starves {
+            self.starves = true;
+            self.starving.fetch_add(1, Ordering::Relaxed);
+        }
+        self.nap(rt, NAPS[0]);
+    }
+
+    /// Sleeps for this many microseconds.
+    fn nap<R: Wait>(&self, rt: &R, micros: u64) {
+        let seen = self.starving.load(Ordering::Relaxed) % (1 << 32);
+        let time = Duration::from_micros(micros);
+        self.starving.park_timeout(rt, seen as u32, time);
+    }
+}
