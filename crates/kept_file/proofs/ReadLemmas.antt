@@ -134,10 +134,8 @@ module _ {S : Type 0} (g : store.Ghosts S) where
   begun_read text params old new reads (inr h) = absurd (no_returning (understood old.schema text) (reads old.schema) h.0)
 
   -- a reading begins
-  pub handed_none : (start old new : Held S) → IsUnchanged (state g start) (state g old) → HasBegun g ENTRIES.now [] old new → HandedOut g start new []
-  handed_none start old new same begun =
-      let it = begun_read ENTRIES.now [] old new entries_read begun in
-      (it.0, unchanged_then (state g start) (state g old) (state g new) same it.1)
+  pub handed_none : (old new : Held S) → HasBegun g ENTRIES.now [] old new → HandedOut g old new []
+  handed_none old new begun = begun_read ENTRIES.now [] old new entries_read begun
 
   -- it goes on
   pub hands_row : (old new : Held S) (row : Row) (entry : KeptEntry) → IsUnchanged (state g old) (state g new) → row ≡ row_of entry → Advances g old new (Some row)

@@ -7,7 +7,7 @@ ghost use Rattle.kept_file.specs.Lending.{LendsConnection};
 ghost use Rattle.kept_file.specs.Reading.{HasPrograms, HasScripts};
 
 use crate::counts::{self, EntryCounts};
-use crate::entries::Entries;
+use crate::entries;
 use crate::fault::{KeepFault, read_fault, write_fault};
 use crate::query::{number_of, setting};
 use crate::rows::{self, KeptProgram};
@@ -164,15 +164,11 @@ impl<S: Alter> KeptFile<S> {
         rows::scripts(alloc, &mut self.conn)
     }
 
-    /// Begins to read the entries. The faults of `Entries::next`.
-    pub fn entries(&mut self) -> Result<Entries<'_, S>, KeepFault> {
-        Entries::of(&mut self.conn)
-    }
-
-    /// Reads all entries, tests each, and counts them. The faults of `Entries::next`.
+    /// Reads all entries, tests each, and counts them. The faults of `entries::next`.
     pub fn count(&mut self) -> Result<EntryCounts, KeepFault> {
-        let mut entries = self.entries()?;
-        counts::count(&mut entries)
+        let stripes = self.stripes()?;
+        let mut entries = entries::begin(&mut self.conn)?;
+        counts::count(&mut entries, stripes)
     }
 
     /// Returns the connection to the database, for a transaction. If it is no save's, the file may have what no other call here reads.

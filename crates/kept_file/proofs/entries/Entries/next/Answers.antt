@@ -1,9 +1,0 @@
-use Rattle.std.proofs.Common.{rules, None}
-use Rattle.sqlite.specs.Given.{Advances}
-use Rattle.kept_file.proofs.ReadLemmas.{hands_none}
-use Rattle.kept_file.proofs.entries.Entries.next.Goals as goal
-
-pub returns-in_default-clause-hands : goal.returns-in_default-clause-hands
-returns-in_default-clause-hands g c clean =
-    let ended : Advances g.S.Store c.args.self.now.rows.conn.now c.advance.new.self.conn.now None = search rules in
-    hands_none g.S.Store c.args.self.now.rows.conn.now c.advance.new.self.conn.now c.args.entry.now ended
