@@ -1,5 +1,5 @@
 -- Entries that are entered one after the other.
-use Rattle.std.proofs.Common.{◌≡◌, ◌∙◌, ◌+◌, ◌<◌, ℕ, Result, Ok, Err, IfOk, OnOk, Bool, true, false, not, IsTrue, List, [], ◌∷◌, ◌++◌, length, take, get_or, count_by, All, MatchBool, refl, sym, ap, subst, arith}
+use Rattle.std.proofs.Common.{◌≡◌, ◌∙◌, ◌+◌, ◌<◌, ℕ, Result, Ok, Err, IfOk, OnOk, Bool, true, false, not, IsTrue, List, [], ◌∷◌, ◌++◌, length, take, get_or, count_by, MatchBool, refl, sym, ap, subst, arith}
 use Rattle.std.specs.Int.{from_bool}
 use Rattle.std.proofs.lemmas.Grind.{common_steps}
 use Rattle.std.proofs.lemmas.List.{take_more}

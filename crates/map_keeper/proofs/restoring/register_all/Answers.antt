@@ -1,7 +1,6 @@
 use Rattle.std.proofs.Common.{◌≡◌, List, [], ◌∷◌, ◌++◌, rules, subst, sym}
 use Rattle.kept_file.proofs.RowLemmas.{all_taken}
 use Rattle.kept_file.specs.declared.rows.KeptProgram.{KeptProgram}
-use Rattle.program_registry.specs.declared.registry.ProgramToken.{ProgramToken}
 use Rattle.map_keeper.specs.Restores.{AreRestored}
 use Rattle.map_keeper.proofs.RestoreLemmas.{restored_at}
 use Rattle.map_keeper.proofs.restoring.register_all.Goals as goal

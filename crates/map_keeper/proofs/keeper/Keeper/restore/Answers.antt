@@ -1,11 +1,11 @@
-use Rattle.std.proofs.Common.{◌≡◌, ◌∙◌, ◌==◌, ℕ, Bool, ap, subst, sym}
+use Rattle.std.proofs.Common.{◌≡◌, ◌∙◌, ◌==◌, ℕ, ap, subst}
 use Rattle.sqlite.specs.Held.{state}
 use Rattle.sqlite.specs.State.{HasCleanDisk, IsUnchanged}
 use Rattle.sqlite.proofs.Callers.{unchanged_then}
 use Rattle.bin_stripes.specs.Passes.{PassState, stripes_of}
 use Rattle.map_keeper.specs.Restores.{RestoresEntries}
 use Rattle.map_keeper.proofs.RestoreLemmas.{entries_restored, scripts_counted}
-use Rattle.map_keeper.proofs.WriteLemmas.{clean_before, kept_then}
+use Rattle.map_keeper.proofs.WriteLemmas.{clean_before}
 use Rattle.map_keeper.proofs.keeper.Keeper.restore.Goals as goal
 
 -- the file was as before when its scripts were read, and then its entries
