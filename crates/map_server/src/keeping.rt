@@ -43,11 +43,8 @@ fn restored_line(
     restored: &Restored,
     took: Duration,
 ) -> Result<String, AllocError> {
-    let Restored {
-        entries,
-        programs,
-        scripts,
-    } = *restored;
+    let (entries, scripts) = (restored.entries, restored.scripts);
+    let programs = restored.programs.len();
     let tenths = took.as_millis() / 100;
     let (seconds, tenth) = (tenths / 10, tenths % 10);
     format!(in alloc;
