@@ -82,7 +82,7 @@ impl<'a, C: Channel> Client<'a, C> {
         ensures { result ≡ record {
           number = number;
           channel = channel;
-          talk = talk;
+          talk = talk.entry;
           tokens = tokens.entry;
           owed = record { rest = []; failures = 0 };
           leaving = None;
