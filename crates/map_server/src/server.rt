@@ -32,8 +32,11 @@ pub struct Server {
     pub scripts: u64,
     /// The pass by which the map is kept in a file; none: it is not kept.
     pub keeper: Option<Pass>,
+    /// The pass by which the map's entries are counted, if there is a port for the server's numbers.
+    pub watcher: Option<Pass>,
     ghost serve: { All (λ crew. IsCrewOf map crew) crews.items },
     ghost keeps: { ForSome keeper (λ pass. pass.map ≡ map) },
+    ghost watches: { ForSome watcher (λ pass. pass.map ≡ map) },
 }
 
 /// How serving ended.

@@ -32,14 +32,14 @@ abbrev pub calls : Numbers → List ℕ
 calls numbers =
     metric Counter (codes "mapd_commands_total") (codes "Commands on the Redis port, right ones and wrong ones.") numbers.commands
     ++ metric Counter (codes "mapd_requests_total") (codes "Requests in frames.") numbers.requests
-    ++ metric Counter (codes "mapd_walks_total") (codes "Commands and requests that walked over the whole map.") numbers.walks
-    ++ metric Counter (codes "mapd_refusals_total") (codes "Commands and requests to which memory was refused.") numbers.refusals
+    ++ metric Counter (codes "mapd_walks_total") (codes "Commands on the Redis port that walked over the whole map.") numbers.walks
+    ++ metric Counter (codes "mapd_refusals_total") (codes "Commands on the Redis port to which memory was refused.") numbers.refusals
 
 abbrev pub keys : Numbers → List ℕ
 keys numbers =
     metric Counter (codes "mapd_expired_total") (codes "Entries that sweeps took away, since their time was over.") numbers.expired
-    ++ metric Counter (codes "mapd_hits_total") (codes "Reads of a key that found a value.") numbers.hits
-    ++ metric Counter (codes "mapd_misses_total") (codes "Reads of a key that found none.") numbers.misses
+    ++ metric Counter (codes "mapd_hits_total") (codes "Reads of a key on the Redis port that found a value.") numbers.hits
+    ++ metric Counter (codes "mapd_misses_total") (codes "Reads of a key on the Redis port that found none.") numbers.misses
 
 abbrev pub saves : Numbers → List ℕ
 saves numbers =

@@ -17,15 +17,15 @@ pub struct Numbers {
     pub commands: u64,
     /// Requests in frames.
     pub requests: u64,
-    /// Commands and requests that walked over the whole map.
+    /// Commands of Redis that walked over the whole map.
     pub walks: u64,
-    /// Commands and requests to which memory was refused.
+    /// Commands of Redis to which memory was refused.
     pub refusals: u64,
     /// Entries that sweeps took away, since their time was over.
     pub expired: u64,
-    /// Reads of a key that found a value.
+    /// Reads of a key by commands of Redis that found a value.
     pub hits: u64,
-    /// Reads of a key that found none.
+    /// Reads of a key by commands of Redis that found none.
     pub misses: u64,
     /// When the last save was written, in seconds since the epoch; 0 if none was.
     pub last_save_seconds: u64,

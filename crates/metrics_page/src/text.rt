@@ -144,14 +144,14 @@ fn put_calls(text: &mut Text, numbers: &Numbers)
         text,
         Kind::Counter,
         "mapd_walks_total",
-        "Commands and requests that walked over the whole map.",
+        "Commands on the Redis port that walked over the whole map.",
         numbers.walks,
     );
     put(
         text,
         Kind::Counter,
         "mapd_refusals_total",
-        "Commands and requests to which memory was refused.",
+        "Commands on the Redis port to which memory was refused.",
         numbers.refusals,
     );
 }
@@ -173,14 +173,14 @@ fn put_keys(text: &mut Text, numbers: &Numbers)
         text,
         Kind::Counter,
         "mapd_hits_total",
-        "Reads of a key that found a value.",
+        "Reads of a key on the Redis port that found a value.",
         numbers.hits,
     );
     put(
         text,
         Kind::Counter,
         "mapd_misses_total",
-        "Reads of a key that found none.",
+        "Reads of a key on the Redis port that found none.",
         numbers.misses,
     );
 }

@@ -76,6 +76,7 @@ fn asked(
         memory: None,
         keep: None,
         keep_seconds: 1,
+        metrics: None,
     })
 }
 
