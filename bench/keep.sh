@@ -70,11 +70,18 @@ median() { sort -n | sed -n $(((rounds + 1) / 2))p; }
 # A side, and a name of what was measured: the medians.
 print_median() { cut -d' ' -f1 "$work/$1.$2" | median; }
 
+# Merges come first: later a save of a million keys would be on its way.
+measure_merges() {
+    local side
+    for _ in $(seq "$rounds"); do
+        for side in "${sides[@]}"; do merge "$side" >> "$work/$side.merge"; done
+    done
+}
+
 measure_loads() {
     local side load
     for _ in $(seq "$rounds"); do
         for side in "${sides[@]}"; do
-            merge "$side" >> "$work/$side.merge"
             benchmark "$side" set "$requests" 16 16 >> "$work/$side.set"
             benchmark "$side" set $((4 * requests)) 16 16 > "$work/beside" &
             load=$!
@@ -120,6 +127,7 @@ before=$(load_now)
 sides=(mapd keep)
 [ -z "$(command -v redis-server)" ] || sides+=(redis appends)
 for side in "${sides[@]}"; do start "$side"; done
+measure_merges
 measure_loads
 printf '%-10s %22s %22s %20s\n' '' 'merge: 1000/s, us' 'SET: 1000/s' 'GET at 99: ms'
 for side in "${sides[@]}"; do

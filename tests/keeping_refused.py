@@ -41,7 +41,11 @@ class Asked:
             client.send("SHUTDOWN")
             client.rest()
         self.status = server.finish()
-        same("the status is 0 or 3", self.status in (0, 3), True)
+        if self.status == 1:
+            # it was ready, but had no memory for its worker
+            same("what is printed, and answered", (server.printed, self.set), (b"ready\nrefused 9 at 0\n", b""))
+        else:
+            same("the status is 0 or 3", self.status in (0, 3), True)
 
     def is_kept(self) -> bool:
         """Whether the new entry must be there."""
@@ -49,10 +53,12 @@ class Asked:
 
     def may_be_kept(self) -> bool:
         """Whether the new entry may be there."""
-        return self.set != resp.NO_MEMORY
+        return self.status != 1 and self.set != resp.NO_MEMORY
 
     def way(self) -> str:
         """How it went."""
+        if self.status == 1:
+            return "no worker"
         if self.status == 3:
             return "a last save that failed"
         if self.saved and self.saved != resp.OK:

@@ -7,7 +7,7 @@
     and a cell of a table each begin anew. Blocks of code are no sentences, and inline code is one word.
   - 'if' comes at least 4 times in 1,000 words, and 'where' at most 2 times, on pages of 300 words and more: a condition is an 'if'.
   - None of the phrases of BANNED comes.
-  - The README has at most 700 words, with all that is in blocks and tables.
+  - The README has at most 700 words, with all that is in blocks and tables. It and the pages of docs/ have at most MOST_OF_DOCS together.
 
 python3 tests/pages.py [--count] [PAGE..]: with --count it prints each page's figures too."""
 from __future__ import annotations
@@ -24,6 +24,7 @@ MOST_WORDS = 30
 LEAST_IFS = 4
 LEAST_PAGE = 300
 MOST_OF_README = 700
+MOST_OF_DOCS = 38_200
 
 # A list of what was done needs no conditions.
 WITHOUT_IFS = ("CHANGELOG.md",)
@@ -130,6 +131,13 @@ def faults_of_style(page: Page) -> Iterator[str]:
         yield f"{page.words} words, and at most {MOST_OF_README} are wanted"
 
 
+def faults_of_length(read: list[Page]) -> Iterator[str]:
+    """Whether the README and the pages of docs/ have become too long together."""
+    words = sum(page.words for page in read if page.name == "README.md" or page.name.startswith("docs/"))
+    if words > MOST_OF_DOCS:
+        yield f"README.md and docs/: {words} words, and at most {MOST_OF_DOCS} are wanted: what stands twice can go"
+
+
 def often(page: Page, word: str) -> float:
     """How often a word comes in 1,000 words of prose."""
     prose = " ".join(pieces(page))
@@ -173,11 +181,9 @@ def main() -> int:
     parser.add_argument("--count", action="store_true", help="print how many words each page has, and how often 'if' and 'where' come in 1,000")
     parser.add_argument("page", nargs="*", help="these pages alone")
     given = parser.parse_args()
-    faults = count = 0
-    for page in pages():
-        if given.page and page.name not in given.page:
-            continue
-        count += 1
+    read = [page for page in pages() if not given.page or page.name in given.page]
+    faults = 0
+    for page in read:
         told = [*faults_of_links(page), *faults_of_paths(page), *faults_of_style(page)]
         faults += len(told)
         if given.count:
@@ -185,7 +191,10 @@ def main() -> int:
             print(f"{figures}: {page.name}")
         for fault in told:
             print(f"{page.name}: {fault}")
-    print(f"pages: {count} read, {faults} faults")
+    for fault in faults_of_length(read):
+        faults += 1
+        print(fault)
+    print(f"pages: {len(read)} read, {faults} faults")
     return 1 if faults else 0
 
 

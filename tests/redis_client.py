@@ -170,7 +170,7 @@ def fall_back(client: redis.Redis) -> None:
 def scripts(client: redis.Redis, port: int) -> None:
     """The programs of docs/REDIS.md, and scripts that are refused."""
     client.flushall()
-    assert page(port, "REDIS.md") == 5
+    assert page(port, "REDIS.md") == 3
     assert refusal(client.eval, "return 1", 1, "a").startswith("not a script that is served")
     assert "refused: " in refusal(client.script_load, "#!bpf compute bytes 64 8 8 8\nexit\n")
     assert "line 2" in refusal(client.script_load, "#!bpf compute bytes 64 8 8 8\nfoo\nexit\n")

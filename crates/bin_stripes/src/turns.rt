@@ -1,22 +1,17 @@
-//! Turns at a stripe. A thread that finds a stripe held looks again soon, then lets others run, then sleeps. If it has waited for a
-//! millisecond, it starves: while somebody starves at a stripe, nobody else takes it. Go's `sync.Mutex` does the same, but keeps those
+//! Turns at a stripe. A thread that finds a stripe held lets others run, looks again, and sleeps if that didn't help. If it has waited
+//! for a millisecond, it starves: while somebody starves at a stripe, nobody else takes it. Go's `sync.Mutex` does the same, but keeps those
 //! who starve in order. No contract speaks of this: a stripe belongs to the pass that changed its word.
 
-use std::array;
-use std::hint;
 use std::sync::Wait;
 use std::sync::atomic::{AtomicU64, Ordering};
-use std::thread;
 use std::time::Duration;
+use std::{array, thread};
 
 /// A map has at most this many stripes.
 const STRIPES: usize = 64;
 
-/// A thread that waits looks again this often, each time twice as late.
-const SPINS: u32 = 7;
-
-/// After that it lets others run, this often.
-const YIELDS: u32 = 10;
+/// A thread that waits lets others run this often, and looks again each time.
+const YIELDS: u32 = 40;
 
 /// After that it sleeps for these times, in microseconds, and then it starves. The system adds some 50 to each.
 const NAPS: [u64; 4] = [50, 100, 200, 400];
@@ -74,14 +69,10 @@ impl Waiter<'_> {
     pub(crate) fn rest<R: Wait>(&mut self, rt: &R) {
         let rests = self.rests;
         self.rests = rests.saturating_add(1);
-        if rests < SPINS {
-            return spin(1 << rests);
-        }
-        let late = rests - SPINS;
-        if late < YIELDS {
+        if rests < YIELDS {
             return thread::yield_now();
         }
-        match NAPS.get((late - YIELDS) as usize) {
+        match NAPS.get((rests - YIELDS) as usize) {
             Some(nap) => self.nap(rt, *nap),
             None => self.starve(rt),
         }
@@ -101,12 +92,5 @@ impl Waiter<'_> {
         let seen = self.starving.load(Ordering::Relaxed) % (1 << 32);
         let time = Duration::from_micros(micros);
         self.starving.park_timeout(rt, seen as u32, time);
-    }
-}
-
-/// Spends some time on the processor.
-fn spin(times: u32) {
-    for _ in 0..times {
-        hint::spin_loop();
     }
 }

@@ -1,6 +1,7 @@
 -- How many clients are there, and how many seats are taken.
 use Rattle.std.proofs.Common.{◌≡◌, ℕ, zero, suc, ◌+◌, List, [], ◌∷◌, Option, Some, None, is_some, count_by, slice_index_or, ◌<◌, ◌≤◌, inl, inr, refl, sym, subst, ◌∙◌, arith}
 use Rattle.std.proofs.lemmas.Bool.{cases_eq, cases_lt}
+use Rattle.program_registry.specs.declared.registry.Registry.{Registry}
 use Rattle.slab.specs.Slab.{Slab, get, Updates, slab_len}
 use Rattle.crews.specs.Arrivals.{CountGoes}
 
@@ -15,6 +16,10 @@ module _ {P : Type 0} (there : P → ℕ → Type 0) where
 
   pub counts_stay : (a : P) (m n : ℕ) → m ≡ n → CountGoes there a m a n
   counts_stay a m n same others at = subst (λ (t : ℕ). there a (others + t)) same at
+
+-- the same of the registry that the client's tokens are of
+pub counts_of : {P : Type 0} (there : Registry → P → ℕ → Type 0) (one other : Registry) (a b : P) (i j : ℕ) → one ≡ other → CountGoes (there one) a i b j → CountGoes (there other) a i b j
+counts_of there one other a b i j same goes = subst (λ (r : Registry). CountGoes (there r) a i b j) same goes
 
 -- no seat is taken
 some_none : {T : Type 0} (one : T) → Some one ≡ None → ⊥

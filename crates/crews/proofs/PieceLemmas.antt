@@ -67,7 +67,8 @@ frames_more old new held next piece written exchanges answers talked =
 
 commands_more : (x : Exchange Station) (talk next : TalkState) (exchanges : List (Exchange Station)) → AnswersCommands talk x next
     → Talked exchanges (Commands talk) → Talked (exchanges ++ x ∷ []) (Commands next)
-commands_more x talk next exchanges answers (number, each) = (number, each_on (begun number) talk next exchanges (x ∷ []) each (next, answers, refl))
+commands_more x talk next exchanges answers (number, password, each) =
+    (number, password, each_on (begun number password) talk next exchanges (x ∷ []) each (next, answers, refl))
 
 open_of : (held : Held) → held_fault held ≡ None → IsOpen (Frames held)
 open_of (open_at hello rest) is = (hello, rest, refl)
@@ -101,14 +102,15 @@ line_cut line end a b ((front, (rest, taken, parts, some)), count) = inr (refl, 
 
 -- a piece was answered
 answered : (old new : Station) (next : Talk) (piece written : List ℕ) (leaving : Option Parting) (owed after tail : List ℕ) (exchanges : List (Exchange Station)) (read said : List ℕ)
-    → KeepsNumbers (known old) (known new) → after ≡ (owed ++ written) ++ tail
+    → KeepsNumbers (known old) (known new) → new.tokens.registry ≡ old.tokens.registry → after ≡ (owed ++ written) ++ tail
     → SaysSo leaving next (exchanges ++ exchange old piece written new ∷ []) (read ++ piece) ((said ++ written) ++ tail)
     → SaysMore (known old) (known new) exchanges old.tokens new.tokens next leaving (read ++ piece) said owed after
-answered old new next piece written leaving owed after tail exchanges read said numbers is says = record {
+answered old new next piece written leaving owed after tail exchanges read said numbers of is says = record {
   more = exchange old piece written new ∷ [];
   moves = (refl, refl);
   numbers = numbers;
   keeps = (refl, refl);
+  of = of;
   grown = written ++ tail;
   owed_is = is ∙ append_assoc owed written tail;
   says = subst (λ (t : List ℕ). SaysSo leaving next (exchanges ++ exchange old piece written new ∷ []) (read ++ piece) t) (append_assoc said written tail) says;
@@ -116,11 +118,11 @@ answered old new next piece written leaving owed after tail exchanges read said 
 
 -- and nothing is owed after the answers
 only_answered : (old new : Station) (next : Talk) (piece written : List ℕ) (leaving : Option Parting) (owed after : List ℕ) (exchanges : List (Exchange Station)) (read said : List ℕ)
-    → KeepsNumbers (known old) (known new) → after ≡ owed ++ written
+    → KeepsNumbers (known old) (known new) → new.tokens.registry ≡ old.tokens.registry → after ≡ owed ++ written
     → SaysSo leaving next (exchanges ++ exchange old piece written new ∷ []) (read ++ piece) (said ++ written)
     → SaysMore (known old) (known new) exchanges old.tokens new.tokens next leaving (read ++ piece) said owed after
-only_answered old new next piece written leaving owed after exchanges read said numbers is says =
-    answered old new next piece written leaving owed after [] exchanges read said numbers (is ∙ sym (append-nil (owed ++ written)))
+only_answered old new next piece written leaving owed after exchanges read said numbers of is says =
+    answered old new next piece written leaving owed after [] exchanges read said numbers of (is ∙ sym (append-nil (owed ++ written)))
     (subst (λ (t : List ℕ). SaysSo leaving next (exchanges ++ exchange old piece written new ∷ []) (read ++ piece) t) (sym (append-nil (said ++ written))) says)
 
 -- nothing was answered
@@ -132,6 +134,7 @@ unanswered station talk piece leaving owed after tail exchanges read said is say
   moves = refl;
   numbers = numbers_stay (known station);
   keeps = refl;
+  of = refl;
   grown = tail;
   owed_is = is;
   says = subst (λ (es : List (Exchange Station)). SaysSo leaving talk es (read ++ piece) (said ++ tail)) (sym (append-nil exchanges)) says;
@@ -153,10 +156,10 @@ lacking station talk piece leaving a c exchanges read said some tells opened all
 
 -- the answers break off
 broken : (old new : Station) (talk next : Talk) (piece written : List ℕ) (leaving : Option Parting) (a c : List ℕ) (exchanges : List (Exchange Station)) (read said : List ℕ)
-    → KeepsNumbers (known old) (known new) → Breaks talk (exchange old piece written new) next → protocol_of talk ≡ protocol_of next
+    → KeepsNumbers (known old) (known new) → new.tokens.registry ≡ old.tokens.registry → Breaks talk (exchange old piece written new) next → protocol_of talk ≡ protocol_of next
     → leaving ≡ Some (Ended session.WriteFailed) → c ≡ a ++ written → AllSaid exchanges talk read said
     → SaysMore (known old) (known new) exchanges old.tokens new.tokens next leaving (read ++ piece) said a c
-broken old new talk next piece written leaving a c exchanges read said numbers breaks speaks is more all =
+broken old new talk next piece written leaving a c exchanges read said numbers of breaks speaks is more all =
     let xs = exchanges ++ exchange old piece written new ∷ [] in
     let part : SaidInPart (protocol_of next) xs (read ++ piece) (said ++ written) = record {
       done = exchanges;
@@ -172,7 +175,7 @@ broken old new talk next piece written leaving a c exchanges read said numbers b
       read_is = refl;
       said_is = refl;
     } in
-    only_answered old new next piece written leaving a c exchanges read said numbers more
+    only_answered old new next piece written leaving a c exchanges read said numbers of more
     (subst (λ (l : Option Parting). SaysSo l next xs (read ++ piece) (said ++ written)) (sym is) (said ++ written, inr (inr part), front_all (said ++ written)))
 
 some_same : (x y : List ℕ) → Some x ≡ Some y → x ≡ y
@@ -186,13 +189,14 @@ refused : (old new : Station) (held next : Held) (piece written : List ℕ) (fau
 refused old new held next piece written fault leaving a b c exchanges read said faulty grown answers tells all =
     let last = refusal (protocol_fault_number fault) in
     let xs = exchanges ++ exchange old piece written new ∷ [] in
-    let numbers = numbers_of old new (piece_same held next old new piece written answers) in
+    let same = piece_same held next old new piece written answers in
+    let numbers = numbers_of old new same in
     let said_all = said_more (Frames held) (Frames next) (exchange old piece written new) exchanges read said (frames_more old new held next piece written exchanges answers) all in
     let is_failed = failed_of next fault faulty in
     elim tells [
-      | inl (is, more) ↦ answered old new (Frames next) piece written leaving a c last exchanges read said numbers (more ∙ ap (λ (t : List ℕ). t ++ last) grown)
+      | inl (is, more) ↦ answered old new (Frames next) piece written leaving a c last exchanges read said numbers same.registry (more ∙ ap (λ (t : List ℕ). t ++ last) grown)
           (subst (λ (l : Option Parting). SaysSo l (Frames next) xs (read ++ piece) ((said ++ written) ++ last)) (sym is) (said ++ written, (Frames next, refl, is_failed, said_all), refl))
-      | inr (is, (part, front, more)) ↦ answered old new (Frames next) piece written leaving a c part exchanges read said numbers (more ∙ ap (λ (t : List ℕ). t ++ part) grown)
+      | inr (is, (part, front, more)) ↦ answered old new (Frames next) piece written leaving a c part exchanges read said numbers same.registry (more ∙ ap (λ (t : List ℕ). t ++ part) grown)
           (subst (λ (l : Option Parting). SaysSo l (Frames next) xs (read ++ piece) ((said ++ written) ++ part)) (sym is)
           ((said ++ written) ++ last, inr (inl (last, said ++ written, inl (fault, refl, (Frames next, refl, is_failed, said_all)), refl)), front_behind (said ++ written) part last front))
     ]
@@ -208,7 +212,8 @@ pub piece_says : {U : Type 0} (taken : Result U ConversationEnd) (old new : Stat
     → SaysMore (known old) (known new) exchanges old.tokens new.tokens (Frames next) leaving (read ++ piece) said a.rest c.rest
 piece_says (Ok u) old new held next piece leaving a b c some (faultless, (written, takes, answers)) refuses lacks breaks (is, same) exchanges read said (opened, all) =
     let xs = exchanges ++ exchange old piece written new ∷ [] in
-    only_answered old new (Frames next) piece written leaving a.rest c.rest exchanges read said (numbers_of old new (piece_same held next old new piece written answers))
+    let kept = piece_same held next old new piece written answers in
+    only_answered old new (Frames next) piece written leaving a.rest c.rest exchanges read said (numbers_of old new kept) kept.registry
     (ap (λ (o : OwedState). o.rest) same ∙ takes.0)
     (subst (λ (l : Option Parting). SaysSo l (Frames next) xs (read ++ piece) (said ++ written)) (sym is)
     (open_of next faultless, said_more (Frames held) (Frames next) (exchange old piece written new) exchanges read said (frames_more old new held next piece written exchanges answers) all))
@@ -223,7 +228,8 @@ piece_says (Err NoMemory) old new held next piece leaving a b c some ok refuses 
     (lacking old (Frames held) piece leaving a.rest c.rest exchanges read said some (subst (λ (t : List ℕ). TellsLast (refusal 9) session.NoMemory leaving t c.rest) unwritten tells) opened all))
 piece_says (Err WriteFailed) old new held next piece leaving a b c some ok refuses lacks breaks (is, same) exchanges read said (opened, all) =
     let (written, takes, broke) = breaks refl in
-    broken old new (Frames held) (Frames next) piece written leaving a.rest c.rest exchanges read said (numbers_of old new (broken_same held next old new piece written broke)) broke refl is (same ∙ takes.0) all
+    let kept = broken_same held next old new piece written broke in
+    broken old new (Frames held) (Frames next) piece written leaving a.rest c.rest exchanges read said (numbers_of old new kept) kept.registry broke refl is (same ∙ takes.0) all
 
 -- the passes had the client's tokens meanwhile
 pub says_around : (s0 s1 s2 s3 : Station) (t0 t1 t2 : KeptTokens) (next : Talk) (leaving : Option Parting) (exchanges : List (Exchange Station)) (read said owed more : List ℕ)
@@ -250,7 +256,7 @@ commands_say (Ok u) tokens team old new time talk next piece leaving a b c some 
     let s0 : Station = record { pass = old; team = team; tokens = tokens } in
     let s1 : Station = record { pass = new; team = team; tokens = tokens } in
     let xs = exchanges ++ exchange s0 piece written s1 ∷ [] in
-    only_answered s0 s1 (Commands next) piece written leaving a.rest c.rest exchanges read said (record { map_is = same.map; pass = numbers; team = refl })
+    only_answered s0 s1 (Commands next) piece written leaving a.rest c.rest exchanges read said (record { map_is = same.map; pass = numbers; team = refl }) refl
     (ap (λ (o : OwedState). o.rest) still ∙ takes.0)
     (subst (λ (l : Option Parting). SaysSo l (Commands next) xs (read ++ piece) (said ++ written)) (sym is)
     (goes_on, said_more (Commands talk) (Commands next) (exchange s0 piece written s1) exchanges read said (commands_more (exchange s0 piece written s1) talk next exchanges (record { goes_on = begins; team = refl; tokens = refl; time = time; answers = answers })) all))
@@ -259,7 +265,7 @@ commands_say (Err talk_end.Over) tokens team old new time talk next piece leavin
     let s0 : Station = record { pass = old; team = team; tokens = tokens } in
     let s1 : Station = record { pass = new; team = team; tokens = tokens } in
     let xs = exchanges ++ exchange s0 piece written s1 ∷ [] in
-    only_answered s0 s1 (Commands next) piece written leaving a.rest c.rest exchanges read said (record { map_is = same.map; pass = numbers; team = refl })
+    only_answered s0 s1 (Commands next) piece written leaving a.rest c.rest exchanges read said (record { map_is = same.map; pass = numbers; team = refl }) refl
     (still ∙ takes.0)
     (subst (λ (l : Option Parting). SaysSo l (Commands next) xs (read ++ piece) (said ++ written)) (sym is)
     (Commands next, refl, ended, said_more (Commands talk) (Commands next) (exchange s0 piece written s1) exchanges read said (commands_more (exchange s0 piece written s1) talk next exchanges (record { goes_on = begins; team = refl; tokens = refl; time = time; answers = answers })) all))
@@ -273,4 +279,4 @@ commands_say (Err talk_end.NoMemory) tokens team old new time talk next piece le
 commands_say (Err talk_end.WriteFailed) tokens team old new time talk next piece leaving a b c some begins same numbers ok over lacks breaks (is, still) exchanges read said (opened, all) =
     let (written, takes, broke) = breaks refl in
     broken (record { pass = old; team = team; tokens = tokens }) (record { pass = new; team = team; tokens = tokens }) (Commands talk) (Commands next) piece written leaving a.rest c.rest exchanges read said
-    (record { map_is = same.map; pass = numbers; team = refl }) (record { goes_on = begins; team = refl; tokens = refl; time = time; breaks = broke }) refl is (still ∙ takes.0) all
+    (record { map_is = same.map; pass = numbers; team = refl }) refl (record { goes_on = begins; team = refl; tokens = refl; time = time; breaks = broke }) refl is (still ∙ takes.0) all

@@ -1,5 +1,5 @@
 -- Crews before and after they served.
-use Rattle.std.proofs.Common.{ℕ, List, Option, Some, None, IsSome, refl, ◌∙◌}
+use Rattle.std.proofs.Common.{ℕ, List, Option, Some, None, IsSome, ◌≡◌, refl, sym, subst, ◌∙◌}
 use Rattle.std.specs.Io.KnownBytes.{Appends, Consumes}
 use Rattle.atomic_table.specs.Seated.{TableId}
 use Rattle.program_registry.specs.declared.registry.Registry.{Registry}
@@ -26,12 +26,12 @@ carries_on a b c one more = record { worker = more.worker ∙ one.worker; pass =
 module _ {R W : Type 0} (source : R → SourceState) (sink : W → SinkState) (gave : Crew → R → W → Type 0) where
   -- the session of a pair that was given to the crew
   pub is_answered : (old : Crew) (came : R) (came_writer : W) (end : SessionEnd) (reader : R) (writer : W) (new : Crew) → CarriesSame old new → gave old came came_writer
-      → (registry : Registry) → ((read : List ℕ) × ((written : List ℕ) × ((tokens : KeptTokens)
+      → (registry : Registry) (tokens : KeptTokens) → tokens.registry ≡ registry → ((read : List ℕ) × ((written : List ℕ)
       × (Consumes (source came).left (source reader).left read
       × (Appends (sink came_writer).held (sink writer).held written
-      × Ended CrewServes (station old (no_tokens registry)) end read (source reader).last written (station new tokens))))))
-      → IsAnswered source sink gave old end reader writer new
-  is_answered old came came_writer end reader writer new same given registry (read, (written, (tokens, (consumed, (appended, ended))))) = record {
+      × Ended CrewServes (station old (no_tokens registry)) end read (source reader).last written (station new tokens)))))
+      → IsAnswered source sink gave old end reader writer tokens new
+  is_answered old came came_writer end reader writer new same given registry tokens of (read, (written, (consumed, (appended, ended)))) = record {
     worker = same.worker;
     came = came;
     came_writer = came_writer;
@@ -40,7 +40,5 @@ module _ {R W : Type 0} (source : R → SourceState) (sink : W → SinkState) (g
     written = written;
     consumed = consumed;
     appended = appended;
-    registry = registry;
-    tokens = tokens;
-    ended = ended;
+    ended = subst (λ (r : Registry). Ended CrewServes (station old (no_tokens r)) end read (source reader).last written (station new tokens)) (sym of) ended;
   }

@@ -1,5 +1,5 @@
 -- What a session adds to what its pass made, and what two joined passes then have seen.
-use Rattle.std.proofs.Common.{◌≡◌, ◌≢◌, ◌⊎◌, ◌==◌, if◌then◌else◌, inl, inr, ℕ, ◌<◌, List, [], ◌∷◌, ◌++◌, Bool, true, false, Option, refl, sym, ap, subst, ◌∙◌, append-nil, append_assoc, eq-eqb, ne_eqb}
+use Rattle.std.proofs.Common.{◌≡◌, ◌≢◌, ◌⊎◌, ◌==◌, if◌then◌else◌, inl, inr, ℕ, zero, suc, ◌<◌, List, [], ◌∷◌, ◌++◌, Bool, true, false, Option, refl, sym, ap, subst, ◌∙◌, append-nil, append_assoc, eq-eqb, ne_eqb}
 use Rattle.std.proofs.lemmas.Bool.{cases_eq}
 use Rattle.stripe_rule.specs.declared.view.Event.{Event}
 use Rattle.stripe_rule.specs.History.{made_by}
@@ -18,7 +18,11 @@ use Rattle.client_protocol.specs.declared.response.Response.{Response}
 use Rattle.client_protocol.specs.declared.response.Response.TheVariants as tell
 use Rattle.sessions.specs.Asking.{Asked, asked, greeting, registration, call, walk, replacement, count, unknown, response_to, AnswersOnce}
 use Rattle.crews.specs.Shared.{AnsweredCall, made_call, call_asked, call_of_step, SessionOf, calls_of, events_at, SeesBothSessions}
-use Rattle.crews.specs.Stations.{Station}
+use Rattle.crews.specs.declared.crew.Crew.{Crew}
+use Rattle.crews.specs.Crews.{station}
+use Rattle.crews.specs.Collected.{in_session}
+use Rattle.crews.specs.Stations.{no_tokens, Station}
+use Rattle.crews.specs.Together.{SessionsOfCrew, calls_in, made_with_all, SeesAllSessions}
 use Rattle.crews.specs.Steps.{HearsEach, TeamWalks, keeping, CrewMeets, CrewServes}
 use Rattle.crews.proofs.ChainLemmas.{session_leads}
 
@@ -38,27 +42,37 @@ events_same p q k (c ∷ calls) map numbers =
     let event : own_event q.view (record { action = called c.invocation c.reply }) ≡ own_event p.view (record { action = called c.invocation c.reply }) = cc in
     cc
 
--- a session that answered these calls led from one state to the other
-record Leads (old : Station) (calls : List AnsweredCall) (new : Station) : Type 0 where
-  map : new.pass.map ≡ old.pass.map
-  numbers : new.pass.view.numbers ≡ old.pass.view.numbers
-  mine : (k : ℕ) → k < stripes_of old.pass.map → mine_of new.pass.view k ≡ mine_of old.pass.view k ++ events_at old.pass k calls
+-- a pass that made the events of these calls
+record Adds (old : PassState) (calls : List AnsweredCall) (new : PassState) : Type 0 where
+  map : new.map ≡ old.map
+  numbers : new.view.numbers ≡ old.view.numbers
+  mine : (k : ℕ) → k < stripes_of old.map → mine_of new.view k ≡ mine_of old.view k ++ events_at old k calls
 
-stays : (s : Station) → Leads s [] s
-stays s = record { map = refl; numbers = refl; mine = λ k lt. sym (append-nil (mine_of s.pass.view k)) }
+adds_none : (p : PassState) → Adds p [] p
+adds_none p = record { map = refl; numbers = refl; mine = λ k lt. sym (append-nil (mine_of p.view k)) }
 
-goes_on : (a b c : Station) (xs ys : List AnsweredCall) → Leads a xs b → Leads b ys c → Leads a (xs ++ ys) c
-goes_on a b c xs ys one more = record {
+adds_on : (a b c : PassState) (xs ys : List AnsweredCall) → Adds a xs b → Adds b ys c → Adds a (xs ++ ys) c
+adds_on a b c xs ys one more = record {
   map = more.map ∙ one.map;
   numbers = more.numbers ∙ one.numbers;
   mine = λ k lt.
       let here = one.mine k lt in
-      let there : mine_of c.pass.view k ≡ mine_of b.pass.view k ++ events_at b.pass k ys = more.mine k (subst (λ (n : ℕ). k < n) (sym (ap stripes_of one.map)) lt) in
-      let same = events_same a.pass b.pass k ys one.map one.numbers in
-      there ∙ ap (λ es. mine_of b.pass.view k ++ es) same ∙ ap (λ es. es ++ events_at a.pass k ys) here
-      ∙ append_assoc (mine_of a.pass.view k) (events_at a.pass k xs) (events_at a.pass k ys)
-      ∙ ap (λ es. mine_of a.pass.view k ++ es) (sym (events_append a.pass k xs ys));
+      let there : mine_of c.view k ≡ mine_of b.view k ++ events_at b k ys = more.mine k (subst (λ (n : ℕ). k < n) (sym (ap stripes_of one.map)) lt) in
+      let same = events_same a b k ys one.map one.numbers in
+      there ∙ ap (λ es. mine_of b.view k ++ es) same ∙ ap (λ es. es ++ events_at a k ys) here
+      ∙ append_assoc (mine_of a.view k) (events_at a k xs) (events_at a k ys)
+      ∙ ap (λ es. mine_of a.view k ++ es) (sym (events_append a k xs ys));
 }
+
+-- a session that answered these calls led from one state to the other
+abbrev Leads : Station → List AnsweredCall → Station → Type 0
+Leads old calls new = Adds old.pass calls new.pass
+
+stays : (s : Station) → Leads s [] s
+stays s = adds_none s.pass
+
+goes_on : (a b c : Station) (xs ys : List AnsweredCall) → Leads a xs b → Leads b ys c → Leads a (xs ++ ys) c
+goes_on a b c xs ys one more = adds_on a.pass b.pass c.pass xs ys one more
 
 once : (old new : Station) (response : Response) (responses : List Response) → AnswersOnce old response responses new → Leads old [] new
 once old new response responses (is, same) = subst (λ (s : Station). Leads old [] s) (sym same) (stays old)
@@ -170,3 +184,32 @@ sees_both one other joined map other_map is sound first second session later k q
           let leads = session_made old pass s in
           let low : k < stripes_of old.pass.map = subst (λ (n : ℕ). k < n) (ap stripes_of (ap (λ (p : PassState). p.map) s.pass_is ∙ leads.map)) below in
           ap (λ (p : PassState). mine_of p.view k) s.pass_is ∙ leads.mine k low
+
+-- ---- sessions one after the other
+
+-- what a crew's pass has made behind them
+all_made : (n : ℕ) (old new : Crew) (s : SessionsOfCrew n old new) → Adds old.pass (calls_in n old new s) new.pass
+all_made zero old new same = subst (λ (c : Crew). Adds old.pass [] c.pass) (sym same) (adds_none old.pass)
+all_made (suc n) old new (mid, before, one) =
+    let begin = station mid (no_tokens one.registry) in
+    let end = station new one.tokens in
+    adds_on old.pass mid.pass new.pass (calls_in n old mid before) (in_session CrewServes call_of_step begin end one.read one.written one.last one.end one.ended)
+    (all_made n old mid before) (session_leads CrewServes call_of_step Leads stays goes_on serves_leads begin end one.read one.written one.last one.end one.ended)
+
+pub sees_all : (one other joined : PassState) → joined.map ≡ one.map → other.map ≡ one.map → IsJoined (stripes_of one.map) one.view other.view joined.view → Sound (stripes_of joined.map) joined.view
+    → SeesAllSessions one other joined
+sees_all one other joined map other_map is sound n m first served second also sessions later k q one_is other_is lt carried =
+    let mine_one : mine_of one.view k ≡ made_with_all n first served sessions k = mine_after one n first served sessions one_is lt_one in
+    let mine_other : mine_of other.view k ≡ made_with_all m second also later k = mine_after other m second also later other_is lt_other in
+    sound.own k q carried ∙ ap (made_by q) (is.mine k lt_one ∙ ap (λ es. es ++ mine_of other.view k) mine_one ∙ ap (λ es. made_with_all n first served sessions k ++ es) mine_other) where
+      lt_one : k < stripes_of one.map
+      lt_one = subst (λ (n : ℕ). k < n) (ap stripes_of map) lt
+
+      lt_other : k < stripes_of other.map
+      lt_other = subst (λ (n : ℕ). k < n) (sym (ap stripes_of other_map)) lt_one
+
+      mine_after : (pass : PassState) (n : ℕ) (old new : Crew) (s : SessionsOfCrew n old new) → pass ≡ new.pass → k < stripes_of pass.map → mine_of pass.view k ≡ made_with_all n old new s k
+      mine_after pass n old new s pass_is below =
+          let leads = all_made n old new s in
+          let low : k < stripes_of old.pass.map = subst (λ (n : ℕ). k < n) (ap stripes_of (ap (λ (p : PassState). p.map) pass_is ∙ leads.map)) below in
+          ap (λ (p : PassState). mine_of p.view k) pass_is ∙ leads.mine k low

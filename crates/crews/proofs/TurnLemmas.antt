@@ -3,6 +3,7 @@ use Rattle.std.proofs.Common.{◌≡◌, ℕ, List, [], ◌∷◌, ◌++◌, len
 use Rattle.std.specs.Io.KnownBytes.{Consumes, Keeps}
 use Rattle.std.proofs.KnownBytes.{Appends-trans, Appends-kept, Consumes-trans, Consumes-kept}
 use Rattle.client_protocol.specs.Faults.{protocol_fault_number}
+use Rattle.program_registry.specs.declared.registry.Registry.{Registry}
 use Rattle.devices.specs.Channels.{ChannelState, OwedState, TakesOwed, IsKept}
 use Rattle.sessions.specs.Conversations.{Exchange}
 use Rattle.sessions.specs.Sessions.{refusal}
@@ -61,18 +62,18 @@ none_owed protocol parting exchanges read written (b ∷ rest) none parts = absu
 
 -- ---- how it stands after a turn
 
-module _ {C : Type 0} (state : C → ChannelState) where
+module _ {C : Type 0} (state : C → ChannelState) (registry : Registry) where
   -- nothing was read or written
   pub stands_kept : (came : Arrival C) (now next : C) (exchanges : List (Exchange Station)) (tokens : KeptTokens) (talk : Talk) (owed : OwedState) (leaving after : Option Parting)
       → IsKept (state now) (state next) → ((read said : List ℕ) → SaysSo leaving talk exchanges read said → SaysSo after talk exchanges read said) → (after ≡ None → leaving ≡ None)
-      → Stands state came now exchanges tokens talk owed leaving → Stands state came next exchanges tokens talk owed after
+      → Stands state registry came now exchanges tokens talk owed leaving → Stands state registry came next exchanges tokens talk owed after
   stands_kept came now next exchanges tokens talk owed leaving after kept turn still stands = record {
     speaks = stands.speaks;
     read = stands.read;
     written = stands.written;
     consumed = Consumes-kept (state came.channel).left (state now).left (state next).left stands.read stands.consumed kept.0;
     appended = Appends-kept (state came.channel).held (state now).held (state next).held stands.written stands.appended kept.1;
-    registry = stands.registry;
+    of = stands.of;
     keeps = stands.keeps;
     says = turn stands.read (stands.written ++ owed.rest) stands.says;
     unfailed = λ none. stands.unfailed (still none);
@@ -80,12 +81,12 @@ module _ {C : Type 0} (state : C → ChannelState) where
 
   -- no exchange was added
   pub turns_quietly : (passes : Known) (came : Arrival C) (now : C) (exchanges : List (Exchange Station)) (tokens : KeptTokens) (talk : Talk) (owed : OwedState) (leaving : Option Parting)
-      → Stands state came now exchanges tokens talk owed leaving → TurnsTo state passes passes came now exchanges tokens talk owed leaving
+      → Stands state registry came now exchanges tokens talk owed leaving → TurnsTo state registry passes passes came now exchanges tokens talk owed leaving
   turns_quietly passes came now exchanges tokens talk owed leaving stands = record {
     more = [];
     moves = refl;
     numbers = numbers_stay passes;
-    stands = subst (λ (es : List (Exchange Station)). Stands state came now es tokens talk owed leaving) (sym (append-nil exchanges)) stands;
+    stands = subst (λ (es : List (Exchange Station)). Stands state registry came now es tokens talk owed leaving) (sym (append-nil exchanges)) stands;
   }
 
   -- a piece was read and answered
@@ -93,7 +94,7 @@ module _ {C : Type 0} (state : C → ChannelState) where
       → Consumes (state now).left (state next).left piece → Keeps (state now).held (state next).held
       → ((read said : List ℕ) → SaysSo None talk exchanges read said → SaysMore old new exchanges tokens after later leaving (read ++ piece) said owed.rest more_owed.rest)
       → protocol_of later ≡ protocol_of talk → (leaving ≡ None → more_owed.failures ≡ 0)
-      → Stands state came now exchanges tokens talk owed None → TurnsTo state old new came next exchanges after later more_owed leaving
+      → Stands state registry came now exchanges tokens talk owed None → TurnsTo state registry old new came next exchanges after later more_owed leaving
   turns_by_piece old new came now next exchanges tokens after talk later owed more_owed leaving piece consumed kept says speaks unfailed stands =
       let m = says stands.read (stands.written ++ owed.rest) stands.says in
       record {
@@ -106,8 +107,8 @@ module _ {C : Type 0} (state : C → ChannelState) where
           written = stands.written;
           consumed = Consumes-trans (state came.channel).left (state now).left (state next).left stands.read piece stands.consumed consumed;
           appended = Appends-kept (state came.channel).held (state now).held (state next).held stands.written stands.appended kept;
-          registry = stands.registry;
-          keeps = tokens_go_on (no_tokens stands.registry) tokens after exchanges m.more stands.keeps m.keeps;
+          of = m.of ∙ stands.of;
+          keeps = tokens_go_on (no_tokens registry) tokens after exchanges m.more stands.keeps m.keeps;
           says = subst (λ (t : List ℕ). SaysSo leaving later (exchanges ++ m.more) (stands.read ++ piece) t)
               (append_assoc stands.written owed.rest m.grown ∙ ap (λ (t : List ℕ). stands.written ++ t) (sym m.owed_is)) m.says;
           unfailed = unfailed;
@@ -116,14 +117,14 @@ module _ {C : Type 0} (state : C → ChannelState) where
 
   -- what is owed was taken, or a front of it
   pub stands_told : (came : Arrival C) (now next : C) (exchanges : List (Exchange Station)) (tokens : KeptTokens) (talk : Talk) (owed left : OwedState) (leaving : Option Parting)
-      → TakesOwed (state now) (state next) owed left → Stands state came now exchanges tokens talk owed leaving → Stands state came next exchanges tokens talk left leaving
+      → TakesOwed (state now) (state next) owed left → Stands state registry came now exchanges tokens talk owed leaving → Stands state registry came next exchanges tokens talk left leaving
   stands_told came now next exchanges tokens talk owed left leaving takes stands = record {
     speaks = stands.speaks;
     read = stands.read;
     written = stands.written ++ takes.front;
     consumed = Consumes-kept (state came.channel).left (state now).left (state next).left stands.read stands.consumed takes.unread;
     appended = Appends-trans (state came.channel).held (state now).held (state next).held stands.written takes.front stands.appended takes.taken;
-    registry = stands.registry;
+    of = stands.of;
     keeps = stands.keeps;
     says = subst (λ (t : List ℕ). SaysSo leaving talk exchanges stands.read t)
         (ap (λ (t : List ℕ). stands.written ++ t) takes.parts ∙ sym (append_assoc stands.written takes.front left.rest)) stands.says;
@@ -133,14 +134,14 @@ module _ {C : Type 0} (state : C → ChannelState) where
   -- it leaves, whatever it is owed
   pub stands_leaving : (came : Arrival C) (now : C) (exchanges : List (Exchange Station)) (tokens : KeptTokens) (talk : Talk) (owed : OwedState) (leaving : Option Parting) (parting : Parting)
       → ((exchanges : List (Exchange Station)) (read said : List ℕ) → IsCutShort (protocol_of talk) exchanges read said → SaysSo (Some parting) talk exchanges read said)
-      → Stands state came now exchanges tokens talk owed leaving → Stands state came now exchanges tokens talk owed (Some parting)
+      → Stands state registry came now exchanges tokens talk owed leaving → Stands state registry came now exchanges tokens talk owed (Some parting)
   stands_leaving came now exchanges tokens talk owed leaving parting cut stands = record {
     speaks = stands.speaks;
     read = stands.read;
     written = stands.written;
     consumed = stands.consumed;
     appended = stands.appended;
-    registry = stands.registry;
+    of = stands.of;
     keeps = stands.keeps;
     says = cut exchanges stands.read (stands.written ++ owed.rest) (any_cut leaving talk exchanges stands.read (stands.written ++ owed.rest) stands.says);
     unfailed = λ none. absurd cc;
@@ -148,8 +149,8 @@ module _ {C : Type 0} (state : C → ChannelState) where
 
   -- further turns after these
   pub then_stands : (old new : Known) (came : Arrival C) (now next : C) (exchanges : List (Exchange Station)) (tokens after : KeptTokens) (talk later : Talk) (owed left : OwedState) (leaving last : Option Parting)
-      → (t : TurnsTo state old new came now exchanges tokens talk owed leaving) → (Stands state came now (exchanges ++ t.more) tokens talk owed leaving → Stands state came next (exchanges ++ t.more) after later left last)
-      → TurnsTo state old new came next exchanges after later left last
+      → (t : TurnsTo state registry old new came now exchanges tokens talk owed leaving) → (Stands state registry came now (exchanges ++ t.more) tokens talk owed leaving → Stands state registry came next (exchanges ++ t.more) after later left last)
+      → TurnsTo state registry old new came next exchanges after later left last
   then_stands old new came now next exchanges tokens after talk later owed left leaving last t goes = record {
     more = t.more;
     moves = t.moves;

@@ -11,3 +11,4 @@ pub mod Turns
 pub mod Seats
 pub mod Posts
 pub mod Shared
+pub mod Together

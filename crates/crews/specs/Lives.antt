@@ -62,8 +62,8 @@ pub record Arrival (C : Type 0) : Type 0 where
   pub channel : C
   pub protocol : Protocol
 
--- over what connections tell
-module _ {C : Type 0} (state : C → ChannelState) where
+-- over what connections tell, and the registry of all programs
+module _ {C : Type 0} (state : C → ChannelState) (registry : Registry) where
   -- a client that came so speaks the protocol of its port: what was read of it is answered in these exchanges, each with the tokens of
   -- the one before it, and what was written to it, with what is owed, are the answers
   pub record Stands (came : Arrival C) (now : C) (exchanges : List (Exchange Station)) (tokens : KeptTokens) (talk : Talk) (owed : OwedState) (leaving : Option Parting) : Type 0 where
@@ -72,7 +72,7 @@ module _ {C : Type 0} (state : C → ChannelState) where
     pub written : List ℕ
     pub consumed : Consumes (state came.channel).left (state now).left read
     pub appended : Appends (state came.channel).held (state now).held written
-    pub registry : Registry
+    pub of : tokens.registry ≡ registry
     pub keeps : KeepsTokens (no_tokens registry) exchanges tokens
     pub says : SaysSo leaving talk exchanges read (written ++ owed.rest)
     pub unfailed : leaving ≡ None → owed.failures ≡ 0
@@ -93,8 +93,9 @@ module _ {C : Type 0} (gave : PassState → C → Protocol → Type 0) where
 
 -- and over what they tell
 module _ {C : Type 0} (state : C → ChannelState) (gave : PassState → C → Protocol → Type 0) where
-  -- a client left so, and this is its connection now: its exchanges are turns among those that led to what the pass knows
-  pub record HasParted (pass : PassState) (now : C) (parting : Parting) : Type 0 where
+  -- a client left so, and these are its connection and its tokens now: its exchanges are turns among those that led to what the pass knows,
+  -- from no token of the registry that its tokens are of to these
+  pub record HasParted (pass : PassState) (now : C) (tokens : KeptTokens) (parting : Parting) : Type 0 where
     pub old : Known
     pub turns : List Turn
     pub new : Known
@@ -106,13 +107,16 @@ module _ {C : Type 0} (state : C → ChannelState) (gave : PassState → C → P
     pub written : List ℕ
     pub consumed : Consumes (state came.channel).left (state now).left read
     pub appended : Appends (state came.channel).held (state now).held written
+    pub keeps : KeepsTokens (no_tokens tokens.registry) (exchanges_of client turns) tokens
     pub parts : PartsSo came.protocol parting (exchanges_of client turns) read written
 
+-- the same, and the registry of all programs
+module _ {C : Type 0} (state : C → ChannelState) (gave : PassState → C → Protocol → Type 0) (registry : Registry) where
   -- a client came and has had its turns among these
   abbrev pub IsOfClient : Known → List Turn → Known → ℕ → Type 0
   IsOfClient old turns new client =
       (came : Arrival C) × (now : C) × (tokens : KeptTokens) × (talk : Talk) × (owed : OwedState) × (leaving : Option Parting)
-      × HasCome gave old turns new client came × Stands state came now (exchanges_of client turns) tokens talk owed leaving
+      × HasCome gave old turns new client came × Stands state registry came now (exchanges_of client turns) tokens talk owed leaving
 
   -- turns with this number of clients, and sweeps, lead from what the passes knew to what they know
   pub record Life (old : Known) (turns : List Turn) (new : Known) (clients : ℕ) : Type 0 where
@@ -121,6 +125,6 @@ module _ {C : Type 0} (state : C → ChannelState) (gave : PassState → C → P
     pub no_other : (client : ℕ) → clients ≤ client → exchanges_of client turns ≡ []
     pub numbers : KeepsNumbers old new
 
-  -- turns with its clients and sweeps, and nothing else, moved the crew
+  -- turns with its clients and sweeps, and nothing else, moved the crew; the tokens of all clients are of this registry
   abbrev pub HasLived : Crew → Crew → Type 0
   HasLived old new = (turns : List Turn) × (clients : ℕ) × Life (known_of old) turns (known_of new) clients

@@ -19,10 +19,11 @@ abbrev pub protocol_of : Talk → Protocol
 protocol_of (Frames held) = protocols.Frames
 protocol_of (Commands talk) = protocols.Commands
 
--- a talk in which nothing has come; the number is the one that a client of commands may ask for
-abbrev pub begins_so : ℕ → Protocol → Talk
-begins_so number protocols.Frames = Frames (open_at None [])
-begins_so number protocols.Commands = Commands (begun number)
+-- a talk in which nothing has come; the number is the one that a client of commands may ask for, and the password the one that it has
+-- to show, if there is one
+abbrev pub begins_so : ℕ → Option (List ℕ) → Protocol → Talk
+begins_so number password protocols.Frames = Frames (open_at None [])
+begins_so number password protocols.Commands = Commands (begun number password)
 
 -- more may be read: the frames have no fault, or the commands have not ended the talk
 abbrev pub IsOpen : Talk → Type 0
@@ -74,7 +75,7 @@ AnswersEach talk (exchange ∷ exchanges) next = (mid : TalkState) × AnswersCom
 -- from their beginning the client's exchanges went so, one after the other, and the talk is this now
 abbrev pub Talked : List (Exchange Station) → Talk → Type 0
 Talked exchanges (Frames held) = Converses CrewServes (open_at None []) exchanges held
-Talked exchanges (Commands talk) = (number : ℕ) × AnswersEach (begun number) exchanges talk
+Talked exchanges (Commands talk) = (number : ℕ) × (password : Option (List ℕ)) × AnswersEach (begun number password) exchanges talk
 
 -- the answers to the piece of this exchange break off
 abbrev pub Breaks : Talk → Exchange Station → Talk → Type 0

@@ -1,6 +1,7 @@
 -- What one turn adds to what a client was told. No public contract cites this.
 use Rattle.std.specs.Prelude.{◌≡◌, ◌⊎◌, ℕ, List, [], ◌∷◌, ◌++◌, Option, Some}
 use Rattle.client_protocol.specs.Faults.{protocol_fault_number}
+use Rattle.program_registry.specs.declared.registry.Registry.{Registry}
 use Rattle.devices.specs.Channels.{ChannelState, OwedState}
 use Rattle.redis_service.specs.Lines.{no_memory_line}
 use Rattle.redis_service.specs.declared.desk.TalkEnd.{TalkEnd}
@@ -48,14 +49,15 @@ pub record SaysMore (old new : Known) (exchanges : List (Exchange Station)) (tok
   pub moves : Leads old more new
   pub numbers : KeepsNumbers old new
   pub keeps : KeepsTokens tokens more after
+  pub of : after.registry ≡ tokens.registry
   pub grown : List ℕ
   pub owed_is : more_owed ≡ owed ++ grown
   pub says : SaysSo leaving talk (exchanges ++ more) read (said ++ grown)
 
-module _ {C : Type 0} (state : C → ChannelState) where
+module _ {C : Type 0} (state : C → ChannelState) (registry : Registry) where
   -- further exchanges moved the passes, and the client stands so after them
   pub record TurnsTo (old new : Known) (came : Arrival C) (now : C) (exchanges : List (Exchange Station)) (tokens : KeptTokens) (talk : Talk) (owed : OwedState) (leaving : Option Parting) : Type 0 where
     pub more : List (Exchange Station)
     pub moves : Leads old more new
     pub numbers : KeepsNumbers old new
-    pub stands : Stands state came now (exchanges ++ more) tokens talk owed leaving
+    pub stands : Stands state registry came now (exchanges ++ more) tokens talk owed leaving

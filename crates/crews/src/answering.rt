@@ -150,7 +150,7 @@ pub fn answer_commands<'a, 'r, H: Wait>(
     rt: &H,
     room: &mut Room<'a, 'r>,
     count: usize,
-    talk: &mut RedisTalk,
+    talk: &mut RedisTalk<'_>,
     owed: &mut Owed,
 ) -> Option<Parting>
     requires unfailed { owed.old.failures ≡ 0 }

@@ -1,11 +1,13 @@
 //! A worker's whole life, with any number of clients.
 ghost use Rattle.std.specs.Prelude.{◌≡◌, ◌+◌, ◌++◌, ℕ, List, [], None};
 ghost use Rattle.slab.specs.Slab.{get, slab_len, HasRoomFor};
+ghost use Rattle.program_registry.specs.declared.registry.Registry.{Registry as TheRegistry};
 ghost use Rattle.devices.specs.Channels.{Sends};
 ghost use Rattle.crews.specs.Arrivals.{CountGoes};
 ghost use Rattle.crews.specs.Crews.{IsCrewOf, CarriesSame};
 ghost use Rattle.crews.specs.Lives.{Arrival, Known, known, known_of, Turn, HasLived};
 ghost use Rattle.crews.specs.Partings.{not_kept_told};
+ghost use Rattle.crews.specs.Stations.{no_tokens};
 ghost use Rattle.crews.specs.Seats.{HasNone, IsAttended, IsClient};
 
 use crate::answering::{PIECE_BYTES, Room};
@@ -13,6 +15,7 @@ use crate::clients::{Clients, Event, NextSweep, Parting, Protocol, Standing};
 use crate::crew::Crew;
 use crate::serving::Serving;
 use crate::talk::Talk;
+use crate::tokens::Tokens;
 use crate::turn::Client;
 use crate::worker::Worker;
 use bin_stripes::{Gate, Pass};
@@ -20,10 +23,9 @@ use bpf_model::NoMemory;
 use bulk_walks::Team;
 use client_protocol::ShortResponse;
 use devices::{Channel, Sent};
-use program_registry::Registry;
 use redis_scripts::Scripts;
 use redis_service::{NO_ROOM_LINE, RedisDesk};
-use server_state::ServerState;
+use server_state::{Password, ServerState};
 use sessions::Conversation;
 use slab::Slab;
 use std::alloc::Global;
@@ -33,12 +35,12 @@ use std::thread::Threads;
 /// No map has passes for more workers.
 const MOST_WORKERS: u64 = 64;
 
-/// What a worker has at hand: the registry of programs, the room of all turns, the clients in their seats, how many came, and whether
-/// its last sweep left entries whose time is over.
+/// What a worker has at hand: the password that clients of commands have to show, the room of all turns, the clients in their seats, how
+/// many came, and whether its last sweep left entries whose time is over.
 #[derive(Drop)]
 struct Attendant<'a, 'r, C> {
     alloc: Global,
-    registry: &'a Registry,
+    password: Option<&'a Password>,
     room: Room<'a, 'r>,
     seats: Slab<Client<'a, C>>,
     came: u64,
@@ -62,16 +64,18 @@ fn tell_away<C: Channel>(channel: &mut C, protocol: Protocol) -> Sent
 /// A client that came can't be kept: it is told so, and given up.
 fn turn_away<C: Channel, P: Clients<C>>(
     clients: &mut P,
+    tokens: Tokens<'_>,
     pass: &Pass,
     channel: C,
     protocol: Protocol,
 )
-    requires { (came : C) × P.gave pass.now came protocol × (C.state channel ≡ C.state came) }
-    ensures { CountGoes P.there clients.old 1 clients.new 0 }
+    requires came { (came : C) × P.gave pass.now came protocol × (C.state channel ≡ C.state came) }
+    requires none { tokens ≡ no_tokens tokens.registry }
+    ensures { CountGoes (P.there tokens.entry.registry) clients.old 1 clients.new 0 }
 {
     let mut channel = channel;
     let _ = tell_away(&mut channel, protocol);
-    clients.ended(pass, None, channel, Parting::NotKept);
+    clients.ended(pass, None, channel, tokens, Parting::NotKept);
 }
 
 impl<'a, 'r, C: Channel + Drop> Attendant<'a, 'r, C> {
@@ -81,28 +85,35 @@ impl<'a, 'r, C: Channel + Drop> Attendant<'a, 'r, C> {
         self.came.wrapping_mul(MOST_WORKERS).wrapping_add(own)
     }
 
-    /// A client came with this connection, speaks this protocol, and takes a seat.
-    fn take_in<P: Clients<C>>(&mut self, clients: &mut P, channel: C, protocol: Protocol)
-        requires { P.gave self.old.room.serving.pass channel protocol }
+    /// A client came with this connection, speaks this protocol, and takes a seat. It has no token yet.
+    fn take_in<P: Clients<C>>(
+        &mut self,
+        clients: &mut P,
+        tokens: Tokens<'a>,
+        channel: C,
+        protocol: Protocol,
+    )
+        requires gave { P.gave self.old.room.serving.pass channel protocol }
+        requires none { tokens ≡ no_tokens tokens.registry }
         ensures desk { self.new.room.desk ≡ self.old.room.desk }
-        ensures there { CountGoes P.there clients.old (slab_len self.old.seats + 1) clients.new (slab_len self.new.seats) }
+        ensures there { CountGoes (P.there tokens.entry.registry) clients.old (slab_len self.old.seats + 1) clients.new (slab_len self.new.seats) }
         ensures attended { (old : Known) (turns : List Turn)
-            → IsAttended C.state P.gave old turns (known self.old.room.serving) self.old.came self.old.seats
-            → IsAttended C.state P.gave old turns (known self.new.room.serving) self.new.came self.new.seats }
+            → IsAttended C.state P.gave tokens.entry.registry old turns (known self.old.room.serving) self.old.came self.old.seats
+            → IsAttended C.state P.gave tokens.entry.registry old turns (known self.new.room.serving) self.new.came self.new.seats }
     {
         let mut channel = channel;
         let Some(came) = self.came.checked_add(1) else {
-            return turn_away(clients, self.room.serving.pass(), channel, protocol);
+            return turn_away(clients, tokens, self.room.serving.pass(), channel, protocol);
         };
         let Ok(()) = self.seats.reserve(1) else {
-            return turn_away(clients, self.room.serving.pass(), channel, protocol);
+            return turn_away(clients, tokens, self.room.serving.pass(), channel, protocol);
         };
         let seat = self.seats.vacant_key();
         let Ok(()) = clients.watch(seat, &mut channel) else {
-            return turn_away(clients, self.room.serving.pass(), channel, protocol);
+            return turn_away(clients, tokens, self.room.serving.pass(), channel, protocol);
         };
-        let talk = Talk::new(self.alloc, self.next_number(), protocol);
-        let client = Client::new(self.alloc, self.came, self.registry, channel, talk);
+        let talk = Talk::new(self.alloc, self.next_number(), self.password, protocol);
+        let client = Client::new(self.alloc, self.came, tokens, channel, talk);
         let _ = self.seats.insert_reserved(client);
         self.came = came;
     }
@@ -116,15 +127,15 @@ impl<'a, 'r, C: Channel + Drop> Attendant<'a, 'r, C> {
         standing: Standing,
     )
         requires room { HasRoomFor self.old.seats 1 }
-        requires client { (old : Known) × (turns : List Turn)
-            × IsClient C.state P.gave old turns (known self.old.room.serving) self.old.came client }
+        requires client { (registry : TheRegistry) × (old : Known) × (turns : List Turn)
+            × IsClient C.state P.gave registry old turns (known self.old.room.serving) self.old.came client }
         ensures desk { self.new.room.desk ≡ self.old.room.desk }
-        ensures there { CountGoes P.there clients.old (slab_len self.old.seats + 1) clients.new (slab_len self.new.seats) }
-        ensures attended { (old : Known) (turns : List Turn)
-            → IsAttended C.state P.gave old turns (known self.old.room.serving) self.old.came self.old.seats
-            → HasNone C.state P.gave self.old.seats client.entry.number
-            → IsClient C.state P.gave old turns (known self.old.room.serving) self.old.came client.entry
-            → IsAttended C.state P.gave old turns (known self.new.room.serving) self.new.came self.new.seats }
+        ensures there { CountGoes (P.there client.entry.tokens.registry) clients.old (slab_len self.old.seats + 1) clients.new (slab_len self.new.seats) }
+        ensures attended { (registry : TheRegistry) (old : Known) (turns : List Turn)
+            → IsAttended C.state P.gave registry old turns (known self.old.room.serving) self.old.came self.old.seats
+            → HasNone C.state P.gave registry self.old.seats client.entry.number
+            → IsClient C.state P.gave registry old turns (known self.old.room.serving) self.old.came client.entry
+            → IsAttended C.state P.gave registry old turns (known self.new.room.serving) self.new.came self.new.seats }
     {
         if client.has_left() {
             client.part(clients, self.room.serving.pass(), seat);
@@ -141,15 +152,17 @@ impl<'a, 'r, C: Channel + Drop> Attendant<'a, 'r, C> {
         clients: &mut P,
         seat: usize,
     )
-        requires attended { (old : Known) × (turns : List Turn)
-            × IsAttended C.state P.gave old turns (known self.old.room.serving) self.old.came self.old.seats }
+        requires attended { (registry : TheRegistry) × (old : Known) × (turns : List Turn)
+            × IsAttended C.state P.gave registry old turns (known self.old.room.serving) self.old.came self.old.seats }
         requires desk { self.old.room.serving.pass.map ≡ self.old.room.desk }
         ensures desk { self.new.room.desk ≡ self.old.room.desk }
-        ensures there { CountGoes P.there clients.old (slab_len self.old.seats) clients.new (slab_len self.new.seats) }
-        ensures attended { (old : Known) (turns : List Turn)
-            → IsAttended C.state P.gave old turns (known self.old.room.serving) self.old.came self.old.seats
+        ensures there { (registry : TheRegistry) (old : Known) (turns : List Turn)
+            → IsAttended C.state P.gave registry old turns (known self.old.room.serving) self.old.came self.old.seats
+            → CountGoes (P.there registry) clients.old (slab_len self.old.seats) clients.new (slab_len self.new.seats) }
+        ensures attended { (registry : TheRegistry) (old : Known) (turns : List Turn)
+            → IsAttended C.state P.gave registry old turns (known self.old.room.serving) self.old.came self.old.seats
             → (more : List Turn)
-            × IsAttended C.state P.gave old (turns ++ more) (known self.new.room.serving) self.new.came self.new.seats }
+            × IsAttended C.state P.gave registry old (turns ++ more) (known self.new.room.serving) self.new.came self.new.seats }
     {
         let Some(mut client) = self.seats.try_remove(seat) else {
             return;
@@ -160,13 +173,15 @@ impl<'a, 'r, C: Channel + Drop> Attendant<'a, 'r, C> {
 
     /// The client of this seat is let go, if there is one: at once if it was leaving already.
     fn let_go<P: Clients<C>>(&mut self, clients: &mut P, seat: usize)
-        requires attended { (old : Known) × (turns : List Turn)
-            × IsAttended C.state P.gave old turns (known self.old.room.serving) self.old.came self.old.seats }
+        requires attended { (registry : TheRegistry) × (old : Known) × (turns : List Turn)
+            × IsAttended C.state P.gave registry old turns (known self.old.room.serving) self.old.came self.old.seats }
         ensures desk { self.new.room.desk ≡ self.old.room.desk }
-        ensures there { CountGoes P.there clients.old (slab_len self.old.seats) clients.new (slab_len self.new.seats) }
-        ensures attended { (old : Known) (turns : List Turn)
-            → IsAttended C.state P.gave old turns (known self.old.room.serving) self.old.came self.old.seats
-            → IsAttended C.state P.gave old turns (known self.new.room.serving) self.new.came self.new.seats }
+        ensures there { (registry : TheRegistry) (old : Known) (turns : List Turn)
+            → IsAttended C.state P.gave registry old turns (known self.old.room.serving) self.old.came self.old.seats
+            → CountGoes (P.there registry) clients.old (slab_len self.old.seats) clients.new (slab_len self.new.seats) }
+        ensures attended { (registry : TheRegistry) (old : Known) (turns : List Turn)
+            → IsAttended C.state P.gave registry old turns (known self.old.room.serving) self.old.came self.old.seats
+            → IsAttended C.state P.gave registry old turns (known self.new.room.serving) self.new.came self.new.seats }
     {
         let Some(mut client) = self.seats.try_remove(seat) else {
             return;
@@ -181,14 +196,16 @@ impl<'a, 'r, C: Channel + Drop> Attendant<'a, 'r, C> {
 
     /// The client of this seat, if there is one, is let go at once.
     fn drop_one<P: Clients<C>>(&mut self, clients: &mut P, seat: usize)
-        requires attended { (old : Known) × (turns : List Turn)
-            × IsAttended C.state P.gave old turns (known self.old.room.serving) self.old.came self.old.seats }
+        requires attended { (registry : TheRegistry) × (old : Known) × (turns : List Turn)
+            × IsAttended C.state P.gave registry old turns (known self.old.room.serving) self.old.came self.old.seats }
         ensures gone { get self.new.seats seat ≡ None }
         ensures others { (other : ℕ) → get self.old.seats other ≡ None → get self.new.seats other ≡ None }
-        ensures there { CountGoes P.there clients.old (slab_len self.old.seats) clients.new (slab_len self.new.seats) }
-        ensures attended { (old : Known) (turns : List Turn)
-            → IsAttended C.state P.gave old turns (known self.old.room.serving) self.old.came self.old.seats
-            → IsAttended C.state P.gave old turns (known self.new.room.serving) self.new.came self.new.seats }
+        ensures there { (registry : TheRegistry) (old : Known) (turns : List Turn)
+            → IsAttended C.state P.gave registry old turns (known self.old.room.serving) self.old.came self.old.seats
+            → CountGoes (P.there registry) clients.old (slab_len self.old.seats) clients.new (slab_len self.new.seats) }
+        ensures attended { (registry : TheRegistry) (old : Known) (turns : List Turn)
+            → IsAttended C.state P.gave registry old turns (known self.old.room.serving) self.old.came self.old.seats
+            → IsAttended C.state P.gave registry old turns (known self.new.room.serving) self.new.came self.new.seats }
     {
         let Some(client) = self.seats.try_remove(seat) else {
             return;
@@ -198,13 +215,15 @@ impl<'a, 'r, C: Channel + Drop> Attendant<'a, 'r, C> {
 
     /// All clients are let go at once.
     fn drop_all<P: Clients<C>>(&mut self, clients: &mut P)
-        requires attended { (old : Known) × (turns : List Turn)
-            × IsAttended C.state P.gave old turns (known self.old.room.serving) self.old.came self.old.seats }
+        requires attended { (registry : TheRegistry) × (old : Known) × (turns : List Turn)
+            × IsAttended C.state P.gave registry old turns (known self.old.room.serving) self.old.came self.old.seats }
         ensures empty { slab_len self.new.seats ≡ 0 }
-        ensures there { CountGoes P.there clients.old (slab_len self.old.seats) clients.new (slab_len self.new.seats) }
-        ensures attended { (old : Known) (turns : List Turn)
-            → IsAttended C.state P.gave old turns (known self.old.room.serving) self.old.came self.old.seats
-            → IsAttended C.state P.gave old turns (known self.new.room.serving) self.new.came self.new.seats }
+        ensures there { (registry : TheRegistry) (old : Known) (turns : List Turn)
+            → IsAttended C.state P.gave registry old turns (known self.old.room.serving) self.old.came self.old.seats
+            → CountGoes (P.there registry) clients.old (slab_len self.old.seats) clients.new (slab_len self.new.seats) }
+        ensures attended { (registry : TheRegistry) (old : Known) (turns : List Turn)
+            → IsAttended C.state P.gave registry old turns (known self.old.room.serving) self.old.came self.old.seats
+            → IsAttended C.state P.gave registry old turns (known self.new.room.serving) self.new.came self.new.seats }
     {
         for seat in 0..self.seats.capacity() {
             self.drop_one(clients, seat);
@@ -226,11 +245,11 @@ impl<'a, 'r, C: Channel + Drop> Attendant<'a, 'r, C> {
     fn sweep<P: Clients<C>, H: Wait>(&mut self, rt: &H, clients: &mut P)
         requires desk { self.old.room.serving.pass.map ≡ self.old.room.desk }
         ensures desk { self.new.room.desk ≡ self.old.room.desk }
-        ensures there { CountGoes P.there clients.old (slab_len self.old.seats) clients.new (slab_len self.new.seats) }
-        ensures attended { (old : Known) (turns : List Turn)
-            → IsAttended C.state P.gave old turns (known self.old.room.serving) self.old.came self.old.seats
+        ensures there { (registry : TheRegistry) → CountGoes (P.there registry) clients.old (slab_len self.old.seats) clients.new (slab_len self.new.seats) }
+        ensures attended { (registry : TheRegistry) (old : Known) (turns : List Turn)
+            → IsAttended C.state P.gave registry old turns (known self.old.room.serving) self.old.came self.old.seats
             → (more : List Turn)
-            × IsAttended C.state P.gave old (turns ++ more) (known self.new.room.serving) self.new.came self.new.seats }
+            × IsAttended C.state P.gave registry old (turns ++ more) (known self.new.room.serving) self.new.came self.new.seats }
     {
         self.room.now = clients.now();
         self.hurries = self.room.sweep(rt);
@@ -239,22 +258,25 @@ impl<'a, 'r, C: Channel + Drop> Attendant<'a, 'r, C> {
     /// Does what is told, until it is over.
     fn attend_all<P: Clients<C>, H: Threads + Wait + Sync, G: Gate + Sync>(
         &mut self,
-        worker: &Worker<'_, H, G>,
+        worker: &Worker<'a, H, G>,
         clients: &mut P,
     )
         requires attended { (old : Known) × (turns : List Turn)
-            × IsAttended C.state P.gave old turns (known self.old.room.serving) self.old.came self.old.seats }
+            × IsAttended C.state P.gave worker.now.registry.now old turns (known self.old.room.serving) self.old.came self.old.seats }
         requires serves { P.serves self.old.room.serving.pass.map }
         requires desk { self.old.room.serving.pass.map ≡ self.old.room.desk }
-        ensures there { CountGoes P.there clients.old (slab_len self.old.seats) clients.new (slab_len self.new.seats) }
+        ensures there { CountGoes (P.there worker.now.registry.now) clients.old (slab_len self.old.seats) clients.new (slab_len self.new.seats) }
         ensures attended { (old : Known) (turns : List Turn)
-            → IsAttended C.state P.gave old turns (known self.old.room.serving) self.old.came self.old.seats
+            → IsAttended C.state P.gave worker.now.registry.now old turns (known self.old.room.serving) self.old.came self.old.seats
             → (more : List Turn)
-            × IsAttended C.state P.gave old (turns ++ more) (known self.new.room.serving) self.new.came self.new.seats }
+            × IsAttended C.state P.gave worker.now.registry.now old (turns ++ more) (known self.new.room.serving) self.new.came self.new.seats }
     {
         for _ in worker.rt.forever() {
             match clients.next(self.room.serving.pass(), self.next_sweep()) {
-                Event::Came(channel, protocol) => self.take_in(clients, channel, protocol),
+                Event::Came(channel, protocol) => {
+                    let tokens = Tokens::new(worker.alloc, worker.registry);
+                    self.take_in(clients, tokens, channel, protocol);
+                }
                 Event::Ready(seat) => self.serve_one(worker, clients, seat),
                 Event::LetGo(seat) => self.let_go(clients, seat),
                 Event::Sweep => self.sweep(worker.rt, clients),
@@ -293,7 +315,7 @@ fn begun<'a, 'r, H, C: Channel + Drop, G>(
     };
     Attendant {
         alloc: worker.alloc,
-        registry: worker.registry,
+        password: state.password(),
         room: Room {
             number,
             serving,
@@ -324,8 +346,8 @@ pub fn attend<'a, 'r, H: Threads + Wait + Sync, C: Channel + Drop, P: Clients<C>
 ) -> Crew
     requires crew { IsCrewOf worker.now.map.now crew }
     requires serves { P.serves worker.now.map.now }
-    ensures life { HasLived C.state P.gave crew result }
-    ensures there { CountGoes P.there clients.old 0 clients.new 0 }
+    ensures life { HasLived C.state P.gave worker.now.registry.now crew result }
+    ensures there { CountGoes (P.there worker.now.registry.now) clients.old 0 clients.new 0 }
     ensures crew { IsCrewOf worker.now.map.now result }
     ensures same { CarriesSame crew result }
 {

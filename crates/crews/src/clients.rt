@@ -1,6 +1,7 @@
 //! The source of one worker's clients, and of what happens to them.
 ghost use Rattle.std.specs.Prelude.{◌≡◌};
 
+use crate::tokens::Tokens;
 use bin_stripes::Pass;
 use bpf_model::NoMemory;
 use devices::Channel;
@@ -73,6 +74,7 @@ pub trait Clients<C: Channel> {
     ghost use Rattle.std.specs.Prelude.{ℕ};
     ghost use Rattle.atomic_table.specs.Seated.{TableId};
     ghost use Rattle.bin_stripes.specs.Passes.{PassState};
+    ghost use Rattle.program_registry.specs.declared.registry.Registry.{Registry};
     ghost use Rattle.crews.specs.Arrivals.{came_by, CountGoes};
     ghost use Rattle.crews.specs.declared.clients.Protocol.{Protocol as TheProtocol};
     ghost use Rattle.crews.specs.Lives.{HasParted};
@@ -84,32 +86,41 @@ pub trait Clients<C: Channel> {
     /// `next` tells it.
     ghost gave: { PassState → C → TheProtocol → Type 0 } = { λ _ _ _. Unit {0} };
 
-    /// This number of clients came, and have not ended. Nothing but `next` and `ended` changes it.
-    ghost there: { Self → ℕ → Type 0 } = { λ _ _. Unit {0} };
+    /// The tokens of all clients that ended are of this registry. This number of clients came, and have not ended. Nothing but `next`
+    /// and `ended` changes it.
+    ghost there: { Registry → Self → ℕ → Type 0 } = { λ _ _ _. Unit {0} };
 
     /// The next thing to do, for the worker whose pass this is and which wants to sweep then. It may wait.
     fn next(&mut self, pass: &Pass, sweep: NextSweep) -> Event<C>
         requires { serves pass.now.map }
         ensures gave { (channel : C) (protocol : TheProtocol) → result ≡ Event.Came channel protocol → gave pass.now channel protocol }
-        ensures there { CountGoes there self.old 0 self.new (came_by result) };
+        ensures there { (registry : Registry) → CountGoes (there registry) self.old 0 self.new (came_by result) };
 
     /// The time in milliseconds since the epoch, at which commands of a client's turn are made, or a sweep. It may be any number.
     fn now(&mut self) -> u64
-        ensures { CountGoes there self.old 0 self.new 0 };
+        ensures { (registry : Registry) → CountGoes (there registry) self.old 0 self.new 0 };
 
     /// The client that came last is in this seat from now on. `NoMemory` if it can't be kept.
     fn watch(&mut self, seat: usize, channel: &mut C) -> Result<(), NoMemory>
         ensures channel { C.state channel.new ≡ C.state channel.old }
-        ensures there { CountGoes there self.old 0 self.new 0 };
+        ensures there { (registry : Registry) → CountGoes (there registry) self.old 0 self.new 0 };
 
     /// The client of this seat had a turn.
     fn served(&mut self, seat: usize, standing: Standing)
-        ensures { CountGoes there self.old 0 self.new 0 };
+        ensures { (registry : Registry) → CountGoes (there registry) self.old 0 self.new 0 };
 
     /// The client left so, which this worker was given with this connection, and had this seat if it was kept. What was read of it
     /// is answered, in its protocol, by turns among those that led to what the worker's pass knows, and what was written to it are the
-    /// answers, as its parting says. The connection is given up.
-    fn ended(&mut self, pass: &Pass, seat: Option<usize>, channel: C, parting: Parting)
-        requires { HasParted C.state gave pass.now channel parting }
-        ensures { CountGoes there self.old 1 self.new 0 };
+    /// answers, as its parting says. The connection is given up, and so are the tokens of the programs that the client registered or
+    /// named: `Tokens::mean_the_same` compares them with others of their registry. They may be kept without it (`Tokens::into_vec`).
+    fn ended(
+        &mut self,
+        pass: &Pass,
+        seat: Option<usize>,
+        channel: C,
+        tokens: Tokens<'_>,
+        parting: Parting,
+    )
+        requires { HasParted C.state gave pass.now channel tokens parting }
+        ensures { CountGoes (there tokens.entry.registry) self.old 1 self.new 0 };
 }

@@ -4,7 +4,7 @@ ghost use Rattle.crews.specs.Crews.{IsCrewOf, IsServed, CarriesSame, AllCarrySam
 ghost use Rattle.crews.specs.Served.{ServesClients, AllServeClients, HasServedClients};
 
 use crate::accept::Accept;
-use crate::client::session;
+use crate::client::session_with_tokens;
 use crate::crew::Crew;
 use crate::seats::{left_of, seated};
 use crate::worker::Worker;
@@ -27,27 +27,18 @@ fn serve_clients<
     G: Gate + Sync,
 >(worker: &Worker<'_, H, G>, accept: &A, crew: Crew) -> Crew
     requires crew { IsCrewOf worker.now.map.now crew }
-    requires serves { A.serves worker.now.map.now }
+    requires serves { A.serves accept.now worker.now.map.now worker.now.registry.now }
     ensures of { IsCrewOf worker.now.map.now result }
     ensures same { CarriesSame crew result }
-    ensures served { (n : ℕ) × ServesClients R.state W.state A.gave n crew result }
+    ensures served { (n : ℕ) × ServesClients R.state W.state A.gave worker.now.registry.now n crew result }
 {
     let mut crew = crew;
     for _ in worker.rt.forever() {
         let Some((mut reader, mut writer)) = accept.next(&crew) else {
             return crew;
         };
-        let (back, end) = session(
-            worker.rt,
-            worker.alloc,
-            &mut reader,
-            &mut writer,
-            worker.map,
-            worker.registry,
-            crew,
-            worker.gate,
-        );
-        accept.ended(&back, reader, writer, end);
+        let (back, end, tokens) = session_with_tokens(worker, &mut reader, &mut writer, crew);
+        accept.ended(&back, reader, writer, end, tokens);
         crew = back;
     }
     unreachable!()
@@ -55,7 +46,7 @@ fn serve_clients<
 
 /// Runs one worker a crew, each in a thread of its own if one can be made, and each serving its clients one after the other
 /// until `accept` has none for it. Gives the crews back in their order, each of this map with the numbers that it carried, and moved by
-/// nothing but the sessions of clients that its worker was given, one after the other (`served`). `NoMemory`
+/// nothing but the sessions of clients that its worker was given, one after the other, with tokens of this registry (`served`). `NoMemory`
 /// if a request for the lists of workers was refused: nobody is served then, and the crews are given up. Waits for clients.
 pub fn serve<
     H: Threads + Wait + Sync,
@@ -73,19 +64,19 @@ pub fn serve<
     gate: &G,
 ) -> Result<Vec<Crew>, NoMemory>
     requires crews { All (λ crew. IsCrewOf map.now crew) crews.items }
-    requires serves { A.serves map.now }
+    requires serves { A.serves accept.now map.now registry.now }
     ensures same { IfOk result (λ back. AllCarrySame crews.items back.items) }
     ensures map { IfOk result (λ back. All (λ crew. IsCrewOf map.now crew) back.items) }
-    ensures served { IfOk result (λ back. AllServeClients R.state W.state A.gave crews.items back.items) }
+    ensures served { IfOk result (λ back. AllServeClients R.state W.state A.gave registry.now crews.items back.items) }
 {
     let count = crews.len();
     let seats = Vec::with_capacity(alloc, count)?;
     let back = Vec::with_capacity(alloc, count)?;
     let seats = seated(crews, seats);
     let call = move |_: usize, seat: &mut Option<Crew>|
-        requires { IsSomeAnd seat.old (λ crew. IsCrewOf map.now crew) × A.serves map.now }
+        requires { IsSomeAnd seat.old (λ crew. IsCrewOf map.now crew) × A.serves accept.now map.now registry.now }
         ensures of { IsServed map.entry.now seat.old seat.new }
-        ensures served { HasServedClients R.state W.state A.gave seat.old seat.new }
+        ensures served { HasServedClients R.state W.state A.gave registry.entry.now seat.old seat.new }
     {
         if let Some(crew) = seat.take() {
             let worker = Worker {

@@ -205,7 +205,7 @@ impl<'a> Serving<'a> {
         &mut self,
         moment: &Moment<'_, H>,
         desk: &mut RedisDesk<'a, '_>,
-        talk: &mut RedisTalk,
+        talk: &mut RedisTalk<'_>,
         piece: &[u8],
         sink: &mut W,
     ) -> Result<(), TalkEnd>

@@ -1,27 +1,35 @@
 //! How a client speaks, and what of its bytes was read and not answered yet.
 ghost use Rattle.std.specs.Prelude.{◌≡◌, true, false};
+ghost use Rattle.server_state.specs.Passwords.{lent};
 ghost use Rattle.crews.specs.Talks.{IsOpen, IsBetween, IsInside, begins_so};
 
 use crate::clients::Protocol;
 use client_protocol::Feeder;
 use redis_service::RedisTalk;
+use server_state::Password;
 use std::alloc::Global;
 
 /// A client's talk between two turns, by the protocol that it speaks: what was read of a frame, or of a command.
 #[derive(Drop)]
-pub enum Talk {
+pub enum Talk<'a> {
     Frames(Feeder),
-    Commands(RedisTalk),
+    Commands(RedisTalk<'a>),
 }
 
-impl Talk {
-    /// Starts a talk in this protocol; `CLIENT ID` tells the number. Takes no memory.
-    pub fn new(alloc: Global, number: u64, protocol: Protocol) -> Talk
-        ensures { result ≡ begins_so number protocol }
+impl<'a> Talk<'a> {
+    /// Starts a talk in this protocol; `CLIENT ID` tells the number, and `AUTH` has to show the password, if there is one. Takes no
+    /// memory.
+    pub fn new(
+        alloc: Global,
+        number: u64,
+        password: Option<&'a Password>,
+        protocol: Protocol,
+    ) -> Talk<'a>
+        ensures { result ≡ begins_so number (lent password.entry) protocol }
     {
         match protocol {
             Protocol::Frames => Talk::Frames(Feeder::new(alloc)),
-            Protocol::Commands => Talk::Commands(RedisTalk::new(alloc, number)),
+            Protocol::Commands => Talk::Commands(RedisTalk::new(alloc, number, password)),
         }
     }
 

@@ -1,8 +1,8 @@
 //! The tokens that one client's session keeps: of the programs that it registered or named.
 ghost use Rattle.std.specs.Prelude.{◌≡◌, All};
-ghost use Rattle.crews.specs.Stations.{no_tokens};
+ghost use Rattle.crews.specs.Stations.{no_tokens, tokens_of};
 ghost use Rattle.program_registry.specs.Tokens.{IsOf};
-ghost use Rattle.crews.specs.Steps.{MeanTheSame};
+ghost use Rattle.crews.specs.Steps.{Agree, MeanTheSame};
 
 use crate::serving::show_agrees;
 use program_registry::{ProgramToken, Registry};
@@ -49,6 +49,24 @@ impl<'a> Tokens<'a> {
             registry,
             items: Vec::new(alloc),
         }
+    }
+
+    /// Tokens that were kept apart from their registry (`into_vec`), with it again. Takes no memory.
+    pub fn from_vec(registry: &'a Registry, items: Vec<ProgramToken>) -> Tokens<'a>
+        requires of { All (λ token. IsOf registry.now token) items.items }
+        requires agree { Agree items.items }
+        ensures { result ≡ tokens_of registry.now items.items }
+    {
+        Tokens { registry, items }
+    }
+
+    /// The tokens alone, which outlast the reference to their registry. Takes no memory.
+    pub fn into_vec(self) -> Vec<ProgramToken>
+        ensures items { result.items ≡ self.entry.items }
+        ensures of { All (λ token. IsOf self.entry.registry token) result.items }
+        ensures agree { Agree result.items }
+    {
+        self.items
     }
 
     /// Two sessions' numbers mean the same programs, if their tokens are of one registry. Takes no memory. Never waits.

@@ -1,8 +1,9 @@
 //! One of many clients between its turns, and what a turn makes of it.
 ghost use Rattle.std.specs.Prelude.{◌≡◌, ◌≤◌, ℕ, List, [], ◌++◌, length, take, Option, None, Some};
+ghost use Rattle.program_registry.specs.declared.registry.Registry.{Registry as TheRegistry};
 ghost use Rattle.sessions.specs.Conversations.{Exchange as TheExchange};
 ghost use Rattle.crews.specs.declared.talk.Talk.{Talk as TheTalk};
-ghost use Rattle.crews.specs.Stations.{no_tokens, Station};
+ghost use Rattle.crews.specs.Stations.{Station};
 ghost use Rattle.crews.specs.Talks.{protocol_of, IsOpen};
 ghost use Rattle.crews.specs.Partings.{SaysSo, PartsSo};
 ghost use Rattle.crews.specs.Arrivals.{CountGoes};
@@ -17,7 +18,6 @@ use crate::tokens::Tokens;
 use crate::worker::Worker;
 use bin_stripes::{Gate, Pass};
 use devices::{Channel, Owed, Received, Taking};
-use program_registry::Registry;
 use sessions::SessionEnd;
 use std::alloc::Global;
 use std::sync::Wait;
@@ -32,7 +32,7 @@ const OWED_BYTES: usize = 65536;
 pub struct Client<'a, C> {
     pub number: u64,
     pub channel: C,
-    pub talk: Talk,
+    pub talk: Talk<'a>,
     pub tokens: Tokens<'a>,
     pub owed: Owed,
     pub leaving: Option<Parting>,
@@ -48,8 +48,8 @@ fn standing_after_piece(count: usize) -> Standing {
 }
 
 /// The time of the commands of a client that talks so. Frames have no use for it, and any will do.
-fn time_of<C: Channel, P: Clients<C>>(clients: &mut P, talk: &Talk) -> u64
-    ensures { CountGoes P.there clients.old 0 clients.new 0 }
+fn time_of<C: Channel, P: Clients<C>>(clients: &mut P, talk: &Talk<'_>) -> u64
+    ensures { (registry : TheRegistry) → CountGoes (P.there registry) clients.old 0 clients.new 0 }
 {
     match talk {
         Talk::Frames(_) => 0,
@@ -71,19 +71,19 @@ fn parting_of(leaving: Option<Parting>, owed: usize) -> Parting
 }
 
 impl<'a, C: Channel> Client<'a, C> {
-    /// A client that came with this connection, and talks so. Takes no memory.
+    /// A client that came with this connection, talks so, and has these tokens. Takes no memory.
     pub fn new(
         alloc: Global,
         number: u64,
-        registry: &'a Registry,
+        tokens: Tokens<'a>,
         channel: C,
-        talk: Talk,
+        talk: Talk<'a>,
     ) -> Client<'a, C>
         ensures { result ≡ record {
           number = number;
           channel = channel;
           talk = talk;
-          tokens = no_tokens registry.now;
+          tokens = tokens.entry;
           owed = record { rest = []; failures = 0 };
           leaving = None;
         } }
@@ -92,7 +92,7 @@ impl<'a, C: Channel> Client<'a, C> {
             number,
             channel,
             talk,
-            tokens: Tokens::new(alloc, registry),
+            tokens,
             owed: Owed::new(alloc),
             leaving: None,
         }
@@ -159,10 +159,10 @@ impl<'a, C: Channel> Client<'a, C> {
         requires desk { room.old.serving.pass.map ≡ room.old.desk }
         ensures number { self.new.number ≡ self.old.number }
         ensures desk { room.new.desk ≡ room.old.desk }
-        ensures there { CountGoes P.there clients.old 0 clients.new 0 }
-        ensures turns { (came : Arrival C) (exchanges : List (TheExchange Station))
-            → Stands C.state came self.old.channel exchanges self.old.tokens self.old.talk self.old.owed self.old.leaving
-            → TurnsTo C.state (known room.old.serving) (known room.new.serving) came self.new.channel exchanges
+        ensures there { (registry : TheRegistry) → CountGoes (P.there registry) clients.old 0 clients.new 0 }
+        ensures turns { (registry : TheRegistry) (came : Arrival C) (exchanges : List (TheExchange Station))
+            → Stands C.state registry came self.old.channel exchanges self.old.tokens self.old.talk self.old.owed self.old.leaving
+            → TurnsTo C.state registry (known room.old.serving) (known room.new.serving) came self.new.channel exchanges
             self.new.tokens self.new.talk self.new.owed self.new.leaving }
     {
         if self.leaving.is_some() || self.is_held_back() {
@@ -193,9 +193,9 @@ impl<'a, C: Channel> Client<'a, C> {
     /// Sends what is owed, as far as the connection takes it now.
     fn tell(&mut self, alloc: Global)
         ensures number { self.new.number ≡ self.old.number }
-        ensures stands { (came : Arrival C) (exchanges : List (TheExchange Station))
-            → Stands C.state came self.old.channel exchanges self.old.tokens self.old.talk self.old.owed self.old.leaving
-            → Stands C.state came self.new.channel exchanges self.new.tokens self.new.talk self.new.owed self.new.leaving }
+        ensures stands { (registry : TheRegistry) (came : Arrival C) (exchanges : List (TheExchange Station))
+            → Stands C.state registry came self.old.channel exchanges self.old.tokens self.old.talk self.old.owed self.old.leaving
+            → Stands C.state registry came self.new.channel exchanges self.new.tokens self.new.talk self.new.owed self.new.leaving }
     {
         let taking = self.owed.send_to(&mut self.channel);
         self.owed.settle(alloc);
@@ -216,10 +216,10 @@ impl<'a, C: Channel> Client<'a, C> {
         requires desk { room.old.serving.pass.map ≡ room.old.desk }
         ensures number { self.new.number ≡ self.old.number }
         ensures desk { room.new.desk ≡ room.old.desk }
-        ensures there { CountGoes P.there clients.old 0 clients.new 0 }
-        ensures turns { (came : Arrival C) (exchanges : List (TheExchange Station))
-            → Stands C.state came self.old.channel exchanges self.old.tokens self.old.talk self.old.owed self.old.leaving
-            → TurnsTo C.state (known room.old.serving) (known room.new.serving) came self.new.channel exchanges
+        ensures there { (registry : TheRegistry) → CountGoes (P.there registry) clients.old 0 clients.new 0 }
+        ensures turns { (registry : TheRegistry) (came : Arrival C) (exchanges : List (TheExchange Station))
+            → Stands C.state registry came self.old.channel exchanges self.old.tokens self.old.talk self.old.owed self.old.leaving
+            → TurnsTo C.state registry (known room.old.serving) (known room.new.serving) came self.new.channel exchanges
             self.new.tokens self.new.talk self.new.owed self.new.leaving }
     {
         let was_held_back = self.is_held_back();
@@ -231,9 +231,9 @@ impl<'a, C: Channel> Client<'a, C> {
     /// The client is not read any more. Sends what it is owed, as far as the connection takes it now.
     pub fn let_go(&mut self, alloc: Global)
         ensures number { self.new.number ≡ self.old.number }
-        ensures stands { (came : Arrival C) (exchanges : List (TheExchange Station))
-            → Stands C.state came self.old.channel exchanges self.old.tokens self.old.talk self.old.owed self.old.leaving
-            → Stands C.state came self.new.channel exchanges self.new.tokens self.new.talk self.new.owed self.new.leaving }
+        ensures stands { (registry : TheRegistry) (came : Arrival C) (exchanges : List (TheExchange Station))
+            → Stands C.state registry came self.old.channel exchanges self.old.tokens self.old.talk self.old.owed self.old.leaving
+            → Stands C.state registry came self.new.channel exchanges self.new.tokens self.new.talk self.new.owed self.new.leaving }
     {
         if self.leaving.is_none() {
             self.leaving = Some(Parting::LetGo);
@@ -252,11 +252,11 @@ impl<'a, C: Channel> Client<'a, C> {
 
     /// Gives the client up, as it stands.
     pub fn part<P: Clients<C>>(self, clients: &mut P, pass: &Pass, seat: usize)
-        requires { (old : Known) × (turns : List Turn) × (new : Known) × (came : ℕ)
-            × (new.pass ≡ pass.now) × IsClient C.state P.gave old turns new came self }
-        ensures { CountGoes P.there clients.old 1 clients.new 0 }
+        requires { (registry : TheRegistry) × (old : Known) × (turns : List Turn) × (new : Known) × (came : ℕ)
+            × (new.pass ≡ pass.now) × IsClient C.state P.gave registry old turns new came self }
+        ensures { CountGoes (P.there self.entry.tokens.registry) clients.old 1 clients.new 0 }
     {
         let parting = parting_of(self.leaving, self.owed.len());
-        clients.ended(pass, Some(seat), self.channel, parting);
+        clients.ended(pass, Some(seat), self.channel, self.tokens, parting);
     }
 }

@@ -1,1 +1,3 @@
+mod QueryLemmas
+pub mod ReadLemmas
 pub mod RowLemmas

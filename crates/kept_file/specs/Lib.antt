@@ -1,5 +1,6 @@
 pub mod Faults
 pub mod Lending
+pub mod Reading
 pub mod Rows
 pub mod Saves
 pub mod Statements

@@ -1,5 +1,5 @@
 //! What a file has, counted.
-use crate::entries::{Entries, KeptEntry};
+use crate::entries::{self, Entries, KeptEntry};
 use crate::fault::KeepFault;
 use sqlite::Alter;
 
@@ -32,12 +32,15 @@ impl EntryCounts {
     }
 }
 
-/// Reads all entries and counts them. The faults of `Entries::next`.
-pub(crate) fn count<S: Alter>(entries: &mut Entries<'_, S>) -> Result<EntryCounts, KeepFault> {
+/// Reads all entries of a file whose map has this many stripes, and counts them. The faults of `entries::next`.
+pub(crate) fn count<S: Alter>(
+    entries: &mut Entries<'_, S>,
+    stripes: u64,
+) -> Result<EntryCounts, KeepFault> {
     let mut counts = EntryCounts::default();
     let mut entry = KeptEntry::new();
     for _ in 0..u64::MAX {
-        if !entries.next(&mut entry)? {
+        if !entries::next(entries, stripes, &mut entry)? {
             break;
         }
         counts.add(&entry);

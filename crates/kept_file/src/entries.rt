@@ -1,6 +1,9 @@
 //! The entries of a file, read one after the other.
-ghost use Rattle.std.specs.Prelude.{◌≡◌, ◌<◌, Some, IsTrue, IfOk, OnOk};
+ghost use Rattle.std.specs.Prelude.{◌≡◌, ◌<◌, [], Some, IsTrue, IfOk, OnOk};
 ghost use Rattle.sqlite.specs.Given.{row_if};
+ghost use Rattle.sqlite.specs.Held.{state};
+ghost use Rattle.sqlite.specs.State.{HasCleanDisk, Survives};
+ghost use Rattle.kept_file.specs.Reading.{HandedOut, HandsOut};
 ghost use Rattle.kept_file.specs.Rows.{entry_row};
 
 use crate::fault::{KeepFault, read_fault};
@@ -9,7 +12,7 @@ use bpf_model::limits::{KEY_BYTES, VALUE_BYTES};
 use bpf_model::{Key, Value};
 use sqlite::{Alter, Connection, Row, Rows};
 
-const ENTRIES: &str = "SELECT stripe, key, value, deadline FROM entries";
+pub(crate) const ENTRIES: &str = "SELECT stripe, key, value, deadline FROM entries";
 
 const COLUMNS: usize = 4;
 
@@ -56,41 +59,45 @@ impl KeptEntry {
     }
 }
 
-/// The entries of a file, in no order.
-#[derive(Drop)]
-pub struct Entries<'file, S: Alter> {
-    rows: Rows<'file, S>,
-    stripes: u64,
+/// The entries of a file, in no order, as they are read.
+pub type Entries<'file, S> = Rows<'file, S>;
+
+/// Begins to read the entries of the file that is connected so. The faults of `next`.
+pub fn begin<'file, S: Alter>(
+    conn: &'file mut Connection<S>,
+) -> Result<Entries<'file, S>, KeepFault>
+    ensures same_reference { IfOk result (λ entries. entries.conn.ghost_name ≡ conn.entry.ghost_name) }
+    ensures begun { IfOk result (λ entries. HasCleanDisk (state S.Store entries.conn.now) → HandedOut S.Store conn.old entries.conn.now []) }
+    ensures kept { IfOk result (λ entries. Survives (state S.Store conn.old) (state S.Store entries.conn.now) (λ _. ⊥)) }
+{
+    match conn.query(ENTRIES, &[]) {
+        Ok(entries) => Ok(entries),
+        Err(error) => Err(read_fault(error)),
+    }
 }
 
-impl<'file, S: Alter> Entries<'file, S> {
-    pub(crate) fn new(
-        conn: &'file mut Connection<S>,
-        stripes: u64,
-    ) -> Result<Entries<'file, S>, KeepFault> {
-        match conn.query(ENTRIES, &[]) {
-            Ok(rows) => Ok(Entries { rows, stripes }),
-            Err(error) => Err(read_fault(error)),
-        }
+/// Reads the next entry of a file whose map has this many stripes, and tells whether there was one. After the last, or a fault, don't
+/// go on. `Damaged` if a row is no entry's, or its stripe is none of the map; `TooLong` if its key or value is; `Unreadable` if the
+/// disk failed; `NoMemory` if a request for memory was refused.
+pub fn next<S: Alter>(
+    entries: &mut Entries<'_, S>,
+    stripes: u64,
+    entry: &mut KeptEntry,
+) -> Result<bool, KeepFault>
+    ensures row { IfOk result (λ found. IsTrue found → row_if entries.new.has_row entries.new.conn.now ≡
+        Some (entry_row entry.new.stripe entry.new.key entry.new.value entry.new.deadline)) }
+    ensures stripe { IfOk result (λ found. IsTrue found → entry.new.stripe < stripes) }
+    ensures same_reference { entries.new.conn.ghost_name ≡ entries.old.conn.ghost_name }
+    ensures hands { HasCleanDisk (state S.Store entries.new.conn.now) → IfOk result (λ found. HandsOut S.Store entries.old.conn.now entries.new.conn.now found entry.new) }
+    ensures kept { Survives (state S.Store entries.old.conn.now) (state S.Store entries.new.conn.now) (λ _. ⊥) }
+{
+    entries.advance().map_err(read_fault)?;
+    let Some(row) = entries.get() else {
+        return Ok(false);
+    };
+    entry.read(row)?;
+    if entry.stripe >= stripes {
+        return Err(KeepFault::Damaged);
     }
-
-    /// Reads the next entry, and tells whether there was one. After the last, or a fault, don't go on. `Damaged` if a row is no
-    /// entry's, or its stripe is none of the map; `TooLong` if its key or value is; `Unreadable` if the disk failed; `NoMemory` if a
-    /// request for memory was refused.
-    pub fn next(&mut self, entry: &mut KeptEntry) -> Result<bool, KeepFault>
-        ensures row { IfOk result (λ found. IsTrue found → row_if self.new.rows.has_row self.new.rows.conn.now ≡
-            Some (entry_row entry.new.stripe entry.new.key entry.new.value entry.new.deadline)) }
-        ensures stripe { IfOk result (λ found. IsTrue found → entry.new.stripe < self.new.stripes) }
-        ensures same { self.new.stripes ≡ self.old.stripes }
-    {
-        self.rows.advance().map_err(read_fault)?;
-        let Some(row) = self.rows.get() else {
-            return Ok(false);
-        };
-        entry.read(row)?;
-        if entry.stripe >= self.stripes {
-            return Err(KeepFault::Damaged);
-        }
-        Ok(true)
-    }
+    Ok(true)
 }

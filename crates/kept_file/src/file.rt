@@ -1,12 +1,15 @@
 //! A file that is open.
-ghost use Rattle.std.specs.Prelude.{◌≡◌, true, IfOk};
+ghost use Rattle.std.specs.Prelude.{◌≡◌, map, true, IfOk, OnOk};
 ghost use Rattle.std.specs.Borrow.{sem};
+ghost use Rattle.sqlite.specs.Held.{state};
+ghost use Rattle.sqlite.specs.State.{HasCleanDisk, IsUnchanged, Survives};
 ghost use Rattle.kept_file.specs.Lending.{LendsConnection};
+ghost use Rattle.kept_file.specs.Reading.{HasPrograms, HasScripts};
 
 use crate::counts::{self, EntryCounts};
-use crate::entries::Entries;
+use crate::entries;
 use crate::fault::{KeepFault, read_fault, write_fault};
-use crate::query::number_of;
+use crate::query::{number_of, setting};
 use crate::rows::{self, KeptProgram};
 use crate::save::{Save, make_tables};
 use crate::schema::{self, FORMAT};
@@ -18,8 +21,6 @@ use std::io::Read;
 const COUNT_OBJECTS: &str = "SELECT count(*) FROM sqlite_schema";
 
 const COUNT_TEXTS: &str = "SELECT count(*) FROM sqlite_schema WHERE sql = ?1";
-
-const SETTING: &str = "SELECT value FROM settings WHERE name = ?1";
 
 /// The store of a file on the disk.
 pub type OnDisk = FileStore<File>;
@@ -109,7 +110,7 @@ impl<S: Alter> KeptFile<S> {
 
     /// Tests whether the database has the tables that `make` makes. `Newer` if a later server made it; else `NotKept`.
     fn check(&mut self) -> Result<(), KeepFault> {
-        match self.setting("format") {
+        match setting(&mut self.conn, "format") {
             Ok(FORMAT) => {}
             Ok(format) if format > FORMAT => return Err(KeepFault::Newer { format }),
             Err(KeepFault::NoMemory) => return Err(KeepFault::NoMemory),
@@ -136,38 +137,38 @@ impl<S: Alter> KeptFile<S> {
         Ok(true)
     }
 
-    /// Returns the number that a setting has, and 0 if it has none.
-    fn setting(&mut self, name: &str) -> Result<u64, KeepFault> {
-        let number = number_of(&mut self.conn, SETTING, params![name]).map_err(read_fault)?;
-        Ok(number.unwrap_or(0))
-    }
-
     /// Returns how many stripes the map had that was saved last, and 0 if none was saved yet.
-    pub fn stripes(&mut self) -> Result<u64, KeepFault> {
-        self.setting("stripes")
+    pub fn stripes(&mut self) -> Result<u64, KeepFault>
+        ensures same { HasCleanDisk (state S.Store self.new.conn) → OnOk result (IsUnchanged (state S.Store self.old.conn) (state S.Store self.new.conn)) }
+        ensures kept { Survives (state S.Store self.old.conn) (state S.Store self.new.conn) (λ _. ⊥) }
+    {
+        setting(&mut self.conn, "stripes")
     }
 
     /// Reads the programs in the order of their numbers, which are 0, 1 and so on. `Damaged` if one is missing, or a row is no
     /// program's; `Unreadable` if the disk failed; `NoMemory` if a request for memory was refused.
-    pub fn programs(&mut self, alloc: Global) -> Result<Vec<KeptProgram>, KeepFault> {
+    pub fn programs(&mut self, alloc: Global) -> Result<Vec<KeptProgram>, KeepFault>
+        ensures all { HasCleanDisk (state S.Store self.new.conn) → IfOk result (λ programs. HasPrograms (state S.Store self.old.conn) programs.items) }
+        ensures same { HasCleanDisk (state S.Store self.new.conn) → OnOk result (IsUnchanged (state S.Store self.old.conn) (state S.Store self.new.conn)) }
+        ensures kept { Survives (state S.Store self.old.conn) (state S.Store self.new.conn) (λ _. ⊥) }
+    {
         rows::programs(alloc, &mut self.conn)
     }
 
     /// Reads the texts of the scripts in the order in which they were loaded. The faults of `programs`.
-    pub fn scripts(&mut self, alloc: Global) -> Result<Vec<Vec<u8>>, KeepFault> {
+    pub fn scripts(&mut self, alloc: Global) -> Result<Vec<Vec<u8>>, KeepFault>
+        ensures all { HasCleanDisk (state S.Store self.new.conn) → IfOk result (λ texts. HasScripts (state S.Store self.old.conn) (map (λ text. text.items) texts.items)) }
+        ensures same { HasCleanDisk (state S.Store self.new.conn) → OnOk result (IsUnchanged (state S.Store self.old.conn) (state S.Store self.new.conn)) }
+        ensures kept { Survives (state S.Store self.old.conn) (state S.Store self.new.conn) (λ _. ⊥) }
+    {
         rows::scripts(alloc, &mut self.conn)
     }
 
-    /// Begins to read the entries. The faults of `Entries::next`.
-    pub fn entries(&mut self) -> Result<Entries<'_, S>, KeepFault> {
-        let stripes = self.stripes()?;
-        Entries::new(&mut self.conn, stripes)
-    }
-
-    /// Reads all entries, tests each, and counts them. The faults of `Entries::next`.
+    /// Reads all entries, tests each, and counts them. The faults of `entries::next`.
     pub fn count(&mut self) -> Result<EntryCounts, KeepFault> {
-        let mut entries = self.entries()?;
-        counts::count(&mut entries)
+        let stripes = self.stripes()?;
+        let mut entries = entries::begin(&mut self.conn)?;
+        counts::count(&mut entries, stripes)
     }
 
     /// Returns the connection to the database, for a transaction. If it is no save's, the file may have what no other call here reads.

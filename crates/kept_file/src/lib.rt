@@ -7,7 +7,7 @@
 #![tactic(auto)]
 
 mod counts;
-mod entries;
+pub mod entries;
 mod fault;
 mod file;
 mod query;

@@ -1,7 +1,10 @@
 //! Programs and scripts, as a file has them.
-ghost use Rattle.std.specs.Prelude.{◌≡◌, IfOk};
+ghost use Rattle.std.specs.Prelude.{◌≡◌, [], map, IfOk, OnOk};
+ghost use Rattle.sqlite.specs.Held.{state};
 ghost use Rattle.sqlite.specs.Order.{column};
+ghost use Rattle.sqlite.specs.State.{HasCleanDisk, IsUnchanged, Shown, Survives};
 ghost use Rattle.sqlite.specs.declared.types.Value.TheVariants.{Blob};
+ghost use Rattle.kept_file.specs.Reading.{HasPrograms, HasScripts, OnlyReads};
 ghost use Rattle.kept_file.specs.Rows.{number, program_row};
 
 use crate::fault::{KeepFault, read_fault};
@@ -10,10 +13,10 @@ use bpf_model::Sizes;
 use sqlite::{Alter, Connection, Row};
 use std::alloc::Global;
 
-const PROGRAMS: &str =
+pub(crate) const PROGRAMS: &str =
     "SELECT number, key_size, old_size, arg_size, result_size, bytes FROM programs ORDER BY number";
 
-const SCRIPTS: &str = "SELECT number, text FROM scripts ORDER BY number";
+pub(crate) const SCRIPTS: &str = "SELECT number, text FROM scripts ORDER BY number";
 
 /// How many columns a program's row has.
 const COLUMNS: usize = 6;
@@ -64,19 +67,31 @@ fn program_of(alloc: Global, row: &Row) -> Result<KeptProgram, KeepFault>
 }
 
 /// Returns all rows that a query shows.
-fn all_rows<S: Alter>(conn: &mut Connection<S>, sql: &str) -> Result<Vec<Row>, KeepFault> {
-    conn.query_all(sql, &[]).map_err(read_fault)
+fn all_rows<S: Alter>(conn: &mut Connection<S>, sql: &str) -> Result<Vec<Row>, KeepFault>
+    requires { OnlyReads sql.now }
+    ensures all { HasCleanDisk (state S.Store conn.new) → IfOk result (λ rows. Shown sql.now [] (state S.Store conn.old) (state S.Store conn.old) rows.items) }
+    ensures same { HasCleanDisk (state S.Store conn.new) → OnOk result (IsUnchanged (state S.Store conn.old) (state S.Store conn.new)) }
+    ensures kept { Survives (state S.Store conn.old) (state S.Store conn.new) (λ _. ⊥) }
+{
+    match conn.query_all(sql, &[]) {
+        Ok(rows) => Ok(rows),
+        Err(error) => Err(read_fault(error)),
+    }
 }
 
 /// Reads the programs in the order of their numbers, which are 0, 1 and so on. `Damaged` if one is missing or is none.
 pub(crate) fn programs<S: Alter>(
     alloc: Global,
     conn: &mut Connection<S>,
-) -> Result<Vec<KeptProgram>, KeepFault> {
+) -> Result<Vec<KeptProgram>, KeepFault>
+    ensures all { HasCleanDisk (state S.Store conn.new) → IfOk result (λ programs. HasPrograms (state S.Store conn.old) programs.items) }
+    ensures same { HasCleanDisk (state S.Store conn.new) → OnOk result (IsUnchanged (state S.Store conn.old) (state S.Store conn.new)) }
+    ensures kept { Survives (state S.Store conn.old) (state S.Store conn.new) (λ _. ⊥) }
+{
     let rows = all_rows(conn, PROGRAMS)?;
     let mut programs = Vec::new(alloc);
     let mut next = 0u64;
-    for row in rows.iter() {
+    'rows: for row in rows.iter() {
         let program = program_of(alloc, row)?;
         if program.number != next {
             return Err(KeepFault::Damaged);
@@ -91,10 +106,14 @@ pub(crate) fn programs<S: Alter>(
 pub(crate) fn scripts<S: Alter>(
     alloc: Global,
     conn: &mut Connection<S>,
-) -> Result<Vec<Vec<u8>>, KeepFault> {
+) -> Result<Vec<Vec<u8>>, KeepFault>
+    ensures all { HasCleanDisk (state S.Store conn.new) → IfOk result (λ texts. HasScripts (state S.Store conn.old) (map (λ text. text.items) texts.items)) }
+    ensures same { HasCleanDisk (state S.Store conn.new) → OnOk result (IsUnchanged (state S.Store conn.old) (state S.Store conn.new)) }
+    ensures kept { Survives (state S.Store conn.old) (state S.Store conn.new) (λ _. ⊥) }
+{
     let rows = all_rows(conn, SCRIPTS)?;
     let mut scripts = Vec::new(alloc);
-    for row in rows.iter() {
+    'rows: for row in rows.iter() {
         let text = copy_at(alloc, row, 1)?;
         scripts.push(text).map_err(|_| KeepFault::NoMemory)?;
     }

@@ -1,2 +1,3 @@
+pub mod RestoreLemmas
 pub mod SaveLemmas
 pub mod WriteLemmas

@@ -1,5 +1,5 @@
 -- Statements one after the other, and the rows that they are of.
-use Rattle.std.proofs.Common.{◌≡◌, ◌∙◌, ◌≢◌, ◌+◌, ◌<◌, ◌≤◌, ℕ, zero, suc, Bool, IsTrue, true, List, [], ◌∷◌, ◌++◌, map, take, length, All, Option, Result, Ok, Err, OnOk, refl, sym, ap, subst, inl, inr, arith, add-one}
+use Rattle.std.proofs.Common.{◌≡◌, ◌∙◌, ◌≢◌, ◌+◌, ◌<◌, ℕ, zero, suc, Bool, IsTrue, true, List, [], ◌∷◌, ◌++◌, map, take, length, Result, Ok, Err, OnOk, refl, sym, ap, subst, inl, inr, arith, add-one}
 use Rattle.std.proofs.lemmas.List.{append-nil, append_assoc, map-append, take_more}
 use Rattle.std.proofs.lemmas.List.Elements.{All-nil, All-cons, All-append}
 use Rattle.sqlite.specs.Held.{Held, state}
@@ -22,7 +22,7 @@ use Rattle.bin_stripes.specs.Actions.{saved}
 use Rattle.bin_stripes.specs.Passes.{PassState}
 use Rattle.bin_stripes.specs.Saves.{SavesStripe as Saves}
 use Rattle.map_keeper.proofs.SaveLemmas.{same_or_not, below}
-use Rattle.map_keeper.specs.Written.{BeginsAnew, Round, action_of, actions_in, statement_of, statements_of, statements_in, HandsOut, EndsWithOwn, IsSavedSince, IsOther, MakesAll, SavesStripe, SavesBelow, WouldSave, WritesAll, WritesOthers}
+use Rattle.map_keeper.specs.Written.{BeginsAnew, Round, action_of, statement_of, statements_of, statements_in, HandsOut, EndsWithOwn, IsSavedSince, IsOther, MakesAll, SavesStripe, SavesBelow, WouldSave, WritesAll, WritesOthers}
 
 -- nothing was handed out yet
 pub hands_nothing : (anew : Bool) (v : View GhostAction) (k : ℕ) → HandsOut anew v v k []

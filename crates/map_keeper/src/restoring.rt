@@ -1,13 +1,15 @@
 //! What a file has, back into a map, its programs and its scripts.
-ghost use Rattle.std.specs.Prelude.{◌≡◌, ◌⊎◌, true, false, Ok, IfOk, OnErr};
-ghost use Rattle.bin_stripes.specs.Passes.{ServesSameMap};
-ghost use Rattle.bin_stripes.specs.Timed.{CallsAt, RefusesAt};
+ghost use Rattle.std.specs.Prelude.{◌≡◌, ◌⊎◌, ◌==◌, [], false, Ok, IsNone, IsTrue, IfOk, IfSome, OnOk, OnErr, length};
+ghost use Rattle.sqlite.specs.Held.{state};
+ghost use Rattle.sqlite.specs.State.{HasCleanDisk, IsUnchanged, Survives};
+ghost use Rattle.atomic_methods.specs.Hashes.{stripe_of};
+ghost use Rattle.bin_stripes.specs.Passes.{ServesSameMap, stripes_of};
+ghost use Rattle.bin_stripes.specs.Timed.{RefusesAt};
 ghost use Rattle.timed_bins.specs.Deadlines.{is_over};
-ghost use Rattle.timed_bins.specs.declared.timing.TimedReply.{TimedReply as TheReply};
 ghost use Rattle.program_registry.specs.Sent.{IsSentAs};
-ghost use Rattle.program_registry.specs.Tokens.{IsOf, program_of, token_number};
-ghost use Rattle.admission.specs.Admissions.{IsAdmitted};
-ghost use Rattle.map_keeper.specs.Restores.{timing_of, put_of};
+ghost use Rattle.program_registry.specs.Tokens.{IsOf, program_of};
+ghost use Rattle.kept_file.specs.Reading.{HandedOut};
+ghost use Rattle.map_keeper.specs.Restores.{AreRestored, CountsScripts, Enters, IsRestored, RestoresEntries, RestoresPrograms, change_to, has_time, put_of, timing_of};
 
 use crate::fault::RestoreFault;
 use crate::keeper::{Keeper, Shared};
@@ -15,21 +17,23 @@ use admission::{AdmissionFault, ProgramLimits, admit};
 use atomic_methods::Call;
 use bin_stripes::{Pass, StripedMap};
 use bpf_model::{NoMemory, Value};
-use kept_file::{Entries, KeepFault, KeptEntry, KeptProgram};
+use kept_file::{Entries, KeepFault, KeptEntry, KeptProgram, entries};
 use program_registry::{ProgramToken, Registry, SentProgram};
 use redis_scripts::{ScriptFault, Scripts};
-use sqlite::Alter;
+use sqlite::{Alter, Connection};
 use std::alloc::Global;
 use std::sync::Wait;
 use timed_bins::{DeadlineChange, SetRule, Timing};
 use verifier::Verified;
 
-/// How many entries, programs and scripts came from a file.
-#[derive(Clone, Copy, Debug, Default, PartialEq, Eq)]
+/// What came from a file.
+#[derive(Drop)]
 pub struct Restored {
-    /// Entries, without those whose time was over.
+    /// How many entries, without those whose time was over.
     pub entries: u64,
-    pub programs: u64,
+    /// A token of each program, in the order of their numbers.
+    pub programs: Vec<ProgramToken>,
+    /// How many scripts.
     pub scripts: u64,
 }
 
@@ -78,9 +82,7 @@ fn register<R: Wait>(
     registry: &Registry,
     kept: &KeptProgram,
 ) -> Result<ProgramToken, RestoreFault>
-    ensures mine { IfOk result (λ token. IsOf registry.now token) }
-    ensures number { IfOk result (λ token. token_number token ≡ kept.now.number) }
-    ensures program { IfOk result (λ token. IsAdmitted kept.now.bytes.items kept.now.sizes (program_of token).program × ((program_of token).sizes ≡ kept.now.sizes)) }
+    ensures { IfOk result (λ token. IsRestored registry.now kept.now token) }
 {
     let verified = match admit(alloc, ProgramLimits::GREATEST, &kept.bytes, kept.sizes) {
         Ok(verified) => verified,
@@ -92,6 +94,40 @@ fn register<R: Wait>(
             number: kept.number,
         }),
         Err(_) => Err(RestoreFault::NoMemory),
+    }
+}
+
+/// Registers these programs, and returns a token of each. The faults of `register`.
+fn register_all<R: Wait>(
+    rt: &R,
+    alloc: Global,
+    registry: &Registry,
+    programs: &[KeptProgram],
+) -> Result<Vec<ProgramToken>, RestoreFault>
+    ensures { IfOk result (λ tokens. AreRestored registry.now programs.now tokens.items) }
+{
+    let mut tokens = Vec::new(alloc);
+    for program in programs {
+        let token = register(rt, alloc, registry, program)?;
+        if tokens.push(token).is_err() {
+            return Err(RestoreFault::NoMemory);
+        }
+    }
+    Ok(tokens)
+}
+
+/// Returns the change that gives a key this deadline, or none; `None` if the time is over.
+fn change_at(deadline: Option<u64>, now: u64) -> Option<DeadlineChange>
+    ensures some { IfSome result (λ change. (change ≡ change_to deadline) × (is_over deadline now ≡ false)) }
+    ensures none { IsNone result → IsTrue (is_over deadline now) }
+{
+    match deadline {
+        None => Some(DeadlineChange::Clear),
+        Some(at) if at <= now => None,
+        Some(at) => Some(DeadlineChange::Set {
+            at,
+            rule: SetRule::Always,
+        }),
     }
 }
 
@@ -107,18 +143,12 @@ fn enter<R: Wait>(
 ) -> Result<bool, NoMemory>
     requires map { pass.old.map ≡ map.now }
     ensures same { ServesSameMap pass.old pass.new }
-    ensures entered { IfOk result (λ entered. entered ≡ true
-        → (timed : TheReply) × CallsAt pass.old (timing_of entry.now now) (put_of entry.now) timed reply.new pass.new) }
-    ensures left_out { IfOk result (λ entered. entered ≡ false → (is_over entry.now.deadline now ≡ true) × (pass.new ≡ pass.old)) }
+    ensures count { IfOk result (λ entered. entered ≡ has_time now entry.now) }
+    ensures enters { OnOk result (Enters now entry.now pass.old pass.new) }
     ensures err { OnErr result (RefusesAt pass.old (timing_of entry.now now) (put_of entry.now) pass.new) }
 {
-    let change = match entry.deadline {
-        None => DeadlineChange::Clear,
-        Some(at) if at <= now => return Ok(false),
-        Some(at) => DeadlineChange::Set {
-            at,
-            rule: SetRule::Always,
-        },
+    let Some(change) = change_at(entry.deadline, now) else {
+        return Ok(false);
     };
     let timing = Timing { now, change };
     let call = Call::Put {
@@ -136,11 +166,13 @@ fn load<R: Wait>(
     alloc: Global,
     scripts: &Scripts<'_>,
     texts: &[Vec<u8>],
-) -> Result<u64, RestoreFault> {
+) -> Result<u64, RestoreFault>
+    ensures { IfOk result (λ count. count ≡ length texts.now) }
+{
     let mut place = 0u64;
     for text in texts {
         match scripts.load(rt, alloc, text.as_slice()) {
-            Ok(_) => place = place.saturating_add(1),
+            Ok(_) => place += 1,
             Err(ScriptFault::NoMemory) => return Err(RestoreFault::NoMemory),
             Err(fault) => return Err(RestoreFault::Script { place, fault }),
         }
@@ -148,51 +180,82 @@ fn load<R: Wait>(
     Ok(place)
 }
 
-/// Enters these entries, without those whose time is over, and returns how many there are. If the map is as wide as the one that was
-/// saved, each has to be in its key's stripe.
+/// Tests whether the entry is in another stripe than that of its key, if the map has as many stripes as the one that was saved had.
+fn is_misplaced(map: &StripedMap, entry: &KeptEntry, had: u64) -> bool
+    ensures { result ≡ false → IsTrue (had == stripes_of map.now) → entry.now.stripe ≡ stripe_of (stripes_of map.now) entry.now.key }
+{
+    had == map.stripes() && entry.stripe != map.stripe_of(&entry.key)
+}
+
+/// Enters these entries of a map that had this many stripes, without those whose time is over, and returns how many there are. If the
+/// map has as many, each has to be in its key's stripe. `NoMemory` if a request for memory was refused, or there are 2^64 entries.
 fn enter_all<R: Wait, S: Alter>(
     rt: &R,
     map: &StripedMap,
     pass: &mut Pass,
     entries: &mut Entries<'_, S>,
-    is_as_wide: bool,
+    had: u64,
     now: u64,
 ) -> Result<u64, RestoreFault>
     requires map { pass.old.map ≡ map.now }
     ensures same { ServesSameMap pass.old pass.new }
+    ensures same_reference { entries.new.conn.ghost_name ≡ entries.old.conn.ghost_name }
+    ensures entered { HasCleanDisk (state S.Store entries.new.conn.now) → IfOk result (λ count. (start : _) → HandedOut S.Store start entries.old.conn.now []
+        → RestoresEntries (state S.Store start) (had == stripes_of map.now) now pass.old pass.new count × IsUnchanged (state S.Store start) (state S.Store entries.new.conn.now)) }
+    ensures kept { Survives (state S.Store entries.old.conn.now) (state S.Store entries.new.conn.now) (λ _. ⊥) }
 {
     let mut entry = KeptEntry::new();
     let mut reply = Value::new();
     let mut count = 0u64;
-    for _ in 0..u64::MAX {
-        if !entries.next(&mut entry)? {
-            break;
+    for i in 0..u64::MAX {
+        if !entries::next(entries, had, &mut entry)? {
+            return Ok(count);
         }
-        if is_as_wide && entry.stripe != map.stripe_of(&entry.key) {
+        if is_misplaced(map, &entry, had) {
             return Err(RestoreFault::File(KeepFault::Damaged));
         }
-        if enter(rt, map, pass, &entry, now, &mut reply)? {
-            count = count.saturating_add(1);
-        }
+        let is_entered = enter(rt, map, pass, &entry, now, &mut reply)?;
+        count += u64::from(is_entered);
     }
-    Ok(count)
+    Err(RestoreFault::NoMemory)
+}
+
+/// Enters the entries of the file that is connected so, as `enter_all` does.
+fn enter_from<R: Wait, S: Alter>(
+    rt: &R,
+    map: &StripedMap,
+    pass: &mut Pass,
+    conn: &mut Connection<S>,
+    had: u64,
+    now: u64,
+) -> Result<u64, RestoreFault>
+    requires map { pass.old.map ≡ map.now }
+    ensures same { ServesSameMap pass.old pass.new }
+    ensures entered { HasCleanDisk (state S.Store conn.new) → IfOk result (RestoresEntries (state S.Store conn.old) (had == stripes_of map.now) now pass.old pass.new) }
+    ensures unchanged { HasCleanDisk (state S.Store conn.new) → OnOk result (IsUnchanged (state S.Store conn.old) (state S.Store conn.new)) }
+    ensures kept { OnOk result (Survives (state S.Store conn.old) (state S.Store conn.new) (λ _. ⊥)) }
+{
+    let mut entries = entries::begin(conn)?;
+    enter_all(rt, map, pass, &mut entries, had, now)
 }
 
 impl<S: Alter> Keeper<S> {
-    /// Registers the programs of the file, each under the number that it had, and returns how many there are.
+    /// Registers the programs of the file, each under the number that it had, and returns a token of each.
     fn restore_programs<R: Wait>(
         &mut self,
         rt: &R,
         registry: &Registry,
-    ) -> Result<u64, RestoreFault>
+    ) -> Result<Vec<ProgramToken>, RestoreFault>
         ensures taker { self.new.taker ≡ self.old.taker }
+        ensures stripes { self.new.in_file.stripes ≡ self.old.in_file.stripes }
+        ensures programs { HasCleanDisk (state S.Store self.new.file.conn) → IfOk result (λ tokens. RestoresPrograms (state S.Store self.old.file.conn) registry.now tokens.items) }
+        ensures unchanged { HasCleanDisk (state S.Store self.new.file.conn) → OnOk result (IsUnchanged (state S.Store self.old.file.conn) (state S.Store self.new.file.conn)) }
+        ensures kept { OnOk result (Survives (state S.Store self.old.file.conn) (state S.Store self.new.file.conn) (λ _. ⊥)) }
     {
         let programs = self.file.programs(self.alloc)?;
-        for program in programs.iter() {
-            register(rt, self.alloc, registry, program)?;
-        }
+        let tokens = register_all(rt, self.alloc, registry, &programs)?;
         self.in_file.programs = programs.len() as u64;
-        Ok(programs.len() as u64)
+        Ok(tokens)
     }
 
     /// Loads the scripts of the file, and returns how many there are.
@@ -202,6 +265,10 @@ impl<S: Alter> Keeper<S> {
         scripts: &Scripts<'_>,
     ) -> Result<u64, RestoreFault>
         ensures taker { self.new.taker ≡ self.old.taker }
+        ensures stripes { self.new.in_file.stripes ≡ self.old.in_file.stripes }
+        ensures scripts { HasCleanDisk (state S.Store self.new.file.conn) → IfOk result (CountsScripts (state S.Store self.old.file.conn)) }
+        ensures unchanged { HasCleanDisk (state S.Store self.new.file.conn) → OnOk result (IsUnchanged (state S.Store self.old.file.conn) (state S.Store self.new.file.conn)) }
+        ensures kept { OnOk result (Survives (state S.Store self.old.file.conn) (state S.Store self.new.file.conn) (λ _. ⊥)) }
     {
         let texts = self.file.scripts(self.alloc)?;
         let loaded = load(rt, self.alloc, scripts, &texts)?;
@@ -218,10 +285,14 @@ impl<S: Alter> Keeper<S> {
     ) -> Result<u64, RestoreFault>
         requires map { self.old.taker.pass.map ≡ map.now }
         ensures same { ServesSameMap self.old.taker.pass self.new.taker.pass }
+        ensures entered { HasCleanDisk (state S.Store self.new.file.conn) → IfOk result
+            (RestoresEntries (state S.Store self.old.file.conn) (self.old.in_file.stripes == stripes_of map.now) now self.old.taker.pass self.new.taker.pass) }
+        ensures unchanged { HasCleanDisk (state S.Store self.new.file.conn) → OnOk result (IsUnchanged (state S.Store self.old.file.conn) (state S.Store self.new.file.conn)) }
+        ensures kept { OnOk result (Survives (state S.Store self.old.file.conn) (state S.Store self.new.file.conn) (λ _. ⊥)) }
     {
-        let is_as_wide = self.in_file.stripes == map.stripes();
-        let mut entries = self.file.entries()?;
-        enter_all(rt, map, &mut self.taker.pass, &mut entries, is_as_wide, now)
+        let had = self.in_file.stripes;
+        let conn = self.file.connection();
+        enter_from(rt, map, &mut self.taker.pass, conn, had, now)
     }
 
     /// Restores what the file has: its programs, each verified anew and under the number that it had; its scripts; and its entries, with
@@ -237,6 +308,12 @@ impl<S: Alter> Keeper<S> {
     ) -> Result<Restored, RestoreFault>
         requires map { self.old.taker.pass.map ≡ shared.now.map.now }
         ensures same { ServesSameMap self.old.taker.pass self.new.taker.pass }
+        ensures entries { HasCleanDisk (state S.Store self.new.file.conn) → IfOk result (λ restored. RestoresEntries (state S.Store self.old.file.conn)
+            (self.old.in_file.stripes == stripes_of shared.now.map.now) now self.old.taker.pass self.new.taker.pass restored.entries) }
+        ensures programs { HasCleanDisk (state S.Store self.new.file.conn) → IfOk result (λ restored. RestoresPrograms (state S.Store self.old.file.conn) shared.now.registry.now restored.programs.items) }
+        ensures scripts { HasCleanDisk (state S.Store self.new.file.conn) → IfOk result (λ restored. CountsScripts (state S.Store self.old.file.conn) restored.scripts) }
+        ensures unchanged { HasCleanDisk (state S.Store self.new.file.conn) → OnOk result (IsUnchanged (state S.Store self.old.file.conn) (state S.Store self.new.file.conn)) }
+        ensures kept { OnOk result (Survives (state S.Store self.old.file.conn) (state S.Store self.new.file.conn) (λ _. ⊥)) }
     {
         let programs = self.restore_programs(rt, shared.registry)?;
         let scripts = self.restore_scripts(rt, shared.scripts)?;

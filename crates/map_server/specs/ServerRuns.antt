@@ -105,9 +105,14 @@ Listens asked old new status =
     FailsToListen old new status
     ⊎ (FailsToRestore asked old.output new.output status ⊎ ServesClients asked old.output new.output status)
 
--- what a call does: its words ask for no server; or no map is opened; or it listens
+-- the file of the password can't be read, or its first line is none; standard error is told why
+abbrev pub LacksPassword : MapdWords → Outputs → Outputs → ℕ → Type 0
+LacksPassword asked old new status = (is_some asked.password_file ≡ true) × (status ≡ 3) × (new.output ≡ old.output)
+
+-- what a call does: its words ask for no server; or there is no password; or no map is opened; or it listens
 abbrev pub RunsMapd : List (List ℕ) → Outputs → Outputs → ℕ → Type 0
 RunsMapd words old new status =
     ((ending : Ending) × EndsServerWords words ending × TellsEnding ending old new status)
     ⊎ ((asked : MapdWords) × AsksServer words asked
-    × (((fault : OpenFault) × IsNotOpened asked fault × TellsOpenFault fault old new status) ⊎ (CanOpen asked × Listens asked old new status)))
+    × (LacksPassword asked old new status
+    ⊎ (((fault : OpenFault) × IsNotOpened asked fault × TellsOpenFault fault old new status) ⊎ (CanOpen asked × Listens asked old new status))))

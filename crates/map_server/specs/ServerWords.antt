@@ -36,6 +36,7 @@ mapd_options wanted =
     ∷ text_option (codes "keep") false
     ∷ range_option (codes "keep-seconds") (pos 3600)
     ∷ range_option (codes "memory") (pos 65535)
+    ∷ text_option (codes "password-file") false
     ∷ text_option (codes "metrics") false
     ∷ []
 
@@ -51,8 +52,8 @@ gives_redis words = is_empty (fault_of (mapd false) words) && is_some (first_of 
 abbrev pub reader_of : List (List ℕ) → App
 reader_of words = mapd (not (gives_redis words))
 
--- what the options ask for: each is given, or has its default; the addresses, the number of sessions, the idle seconds, the memory and the file
--- have none
+-- what the options ask for: each is given, or has its default; the addresses, the number of sessions, the idle seconds, the memory and the
+-- files have none
 pub record AsksFor (rows : List Row) (asked : MapdWords) : Type 0 where
   pub listen : option_map string_bytes asked.listen ≡ first_of (codes "listen") rows
   pub redis : option_map string_bytes asked.redis ≡ first_of (codes "redis") rows
@@ -66,6 +67,7 @@ pub record AsksFor (rows : List Row) (asked : MapdWords) : Type 0 where
   pub memory : asked.memory ≡ option_and_then spelled_size (one_of (codes "memory") rows)
   pub keep : option_map string_bytes asked.keep ≡ first_of (codes "keep") rows
   pub keep_seconds : asked.keep_seconds ≡ given_size rows (codes "keep-seconds") 1
+  pub password_file : option_map string_bytes asked.password_file ≡ first_of (codes "password-file") rows
   pub metrics : option_map string_bytes asked.metrics ≡ first_of (codes "metrics") rows
 
 -- what the words ask for, of which the first is the program's name: clap finds no fault in them, and they ask for this

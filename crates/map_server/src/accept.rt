@@ -8,7 +8,7 @@ use crate::quotas::Quotas;
 use crate::shared_stream::SharedStream;
 use crate::sockets::{hear_out, set_up, tell_no_room};
 use crate::telling::Telling;
-use crews::{Accept, Crew, Protocol};
+use crews::{Accept, Crew, Protocol, Tokens};
 use devices::{Sink, Source, StreamSink, StreamSource};
 use sessions::SessionEnd;
 use std::alloc::Global;
@@ -178,7 +178,14 @@ impl<'a, 'b, H: Wait + Clock, E: Sink> Accept<TcpReader, TcpWriter> for TcpAccep
         }
     }
 
-    fn ended(&self, _crew: &Crew, reader: TcpReader, writer: TcpWriter, end: SessionEnd) {
+    fn ended(
+        &self,
+        _crew: &Crew,
+        reader: TcpReader,
+        writer: TcpWriter,
+        end: SessionEnd,
+        _tokens: Tokens<'_>,
+    ) {
         let (stream, _) = writer.into_inner().into_parts();
         if matches!(end, SessionEnd::Refused(_) | SessionEnd::NoMemory) {
             hear_out(self.arrivals.rt, stream.as_stream());

@@ -43,11 +43,8 @@ fn restored_line(
     restored: &Restored,
     took: Duration,
 ) -> Result<String, AllocError> {
-    let Restored {
-        entries,
-        programs,
-        scripts,
-    } = *restored;
+    let (entries, scripts) = (restored.entries, restored.scripts);
+    let programs = restored.programs.len();
     let tenths = took.as_millis() / 100;
     let (seconds, tenth) = (tenths / 10, tenths % 10);
     format!(in alloc;
@@ -226,6 +223,7 @@ impl<H: Wait + Clock, E: Sink> Saver<'_, '_, '_, '_, '_, H, E> {
     {
         let entrance = self.entrance;
         let (rt, state) = (entrance.arrivals.rt, entrance.state);
+        state.saver_began();
         let period = Duration::from_secs(kept.seconds);
         let mut stopwatch = Stopwatch::new(rt);
         let mut next = period;

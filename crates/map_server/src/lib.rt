@@ -16,6 +16,7 @@ mod entrance;
 mod keeping;
 mod metrics;
 mod opening;
+mod passwords;
 mod patience;
 mod ports;
 mod posts;
@@ -46,6 +47,7 @@ pub use map_commands::{
     hex_bytes, parse_words, report_of, tell_unread_words, unit_lines,
 };
 pub use map_keeper::{HostFiles, KeepFault, KeptFile, OnDisk, Opener};
+pub use passwords::PasswordFiles;
 pub use ports::Ports;
 pub use program::mapd_on;
 pub use quotas::Quotas;

@@ -127,6 +127,7 @@ fn server_of(
         protocols: asked.protocols(),
         scripts: asked.programs,
         keeper,
+        password: None,
         watcher,
     })
 }

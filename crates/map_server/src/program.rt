@@ -10,6 +10,7 @@ ghost use Rattle.map_server.specs.ServerWords.{reader_of, IsWordsFault};
 
 use crate::keeping::{Host, restored, tell_fault_of_file};
 use crate::opening::open_server;
+use crate::passwords::{PasswordFiles, given_password, tell_no_password};
 use crate::ports::ListenFault;
 use crate::server::{Served, Server};
 use crate::tcp::{Bound, Ready, bind, serve_ports};
@@ -224,6 +225,7 @@ fn serve_bound<H: Threads + Wait + Clock + Sync, K: Opener, W: Sink, E: Sink + S
         limits,
         scripts,
         keeper,
+        password,
         watcher,
         ..
     } = server;
@@ -240,7 +242,7 @@ fn serve_bound<H: Threads + Wait + Clock + Sync, K: Opener, W: Sink, E: Sink + S
     if let Err(Failed) = print_at_once(writer, b"ready\n") {
         return tell_failed_write(&mut telling);
     }
-    let ready = Ready::new(bound, crews, quotas, limits, watcher);
+    let ready = Ready::new(bound, crews, quotas, limits, password, watcher);
     let (served, mut telling) = serve_ports(host.rt, host.alloc, ready, &shared, kept, telling);
     finish(&served, writer, &mut telling)
 }
@@ -287,11 +289,11 @@ fn drawn_seed<R: RandomSource>(rt: &R) -> Seed {
 
 /// Does what the words ask for (the first is the program's name), and returns the status: 0 if it served as many sessions
 /// as it was asked for, 1 for a refusal, 2 for a fault of the words, which standard error is told in clap's text, and 3 for
-/// a failed listen, accept, write or last save, or a file that can't be used, which it is told in a line. The file in which the map is
-/// kept, if it is, is one of these. Waits for clients.
+/// a failed listen, accept, write or last save, or a file that can't be used, which it is told in a line. `files` has the file in which
+/// the map is kept, if it is, and that of the password. Waits for clients.
 pub fn mapd_on<
     H: Threads + Wait + Clock + RandomSource + Net + Sync,
-    K: Opener,
+    K: Opener + PasswordFiles,
     W: Sink,
     E: Sink + Send,
 >(rt: &H, alloc: Global, files: &K, words: &[&str], writer: &mut W, errors: &mut E) -> u8
@@ -304,9 +306,13 @@ pub fn mapd_on<
         Ok(asked) => asked,
         Err(fault) => return ending_of_fault(alloc, &fault, words).tell(writer, errors),
     };
+    let password = match given_password(files, &asked) {
+        Ok(password) => password,
+        Err(fault) => return tell_no_password(alloc, &asked, &fault, errors),
+    };
     let host = Host { rt, alloc, files };
     match open_server(alloc, &asked, drawn_seed(rt)) {
-        Ok(server) => listen(&host, &asked, server, writer, errors),
+        Ok(server) => listen(&host, &asked, server.locked_by(password), writer, errors),
         Err(fault) => tell_fault(fault, writer, errors),
     }
 }

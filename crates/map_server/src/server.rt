@@ -2,6 +2,8 @@
 ghost use Rattle.std.specs.Prelude.{◌≡◌, All};
 ghost use Rattle.std.specs.Option.{ForSome};
 ghost use Rattle.crews.specs.Crews.{IsCrewOf};
+ghost use Rattle.map_server.specs.declared.words.MapdWords.{MapdWords};
+ghost use Rattle.map_server.specs.Servers.{IsAsked};
 
 use crate::arrivals::Limits;
 use crate::quotas::Quotas;
@@ -9,6 +11,7 @@ use bin_stripes::{Pass, StripedMap};
 use bpf_model::NoMemory;
 use crews::Crew;
 use program_registry::Registry;
+use server_state::Password;
 
 /// Which protocols clients speak. There is a port for each.
 #[derive(Clone, Copy, Debug, PartialEq, Eq)]
@@ -32,11 +35,25 @@ pub struct Server {
     pub scripts: u64,
     /// The pass by which the map is kept in a file; none: it is not kept.
     pub keeper: Option<Pass>,
+    /// The password that clients of commands have to show; none: they needn't.
+    pub password: Option<Password>,
     /// The pass by which the map's entries are counted, if there is a port for the server's numbers.
     pub watcher: Option<Pass>,
     ghost serve: { All (λ crew. IsCrewOf map crew) crews.items },
     ghost keeps: { ForSome keeper (λ pass. pass.map ≡ map) },
     ghost watches: { ForSome watcher (λ pass. pass.map ≡ map) },
+}
+
+impl Server {
+    /// The same server, whose clients of commands have to show this password, if there is one.
+    pub(crate) fn locked_by(self, password: Option<Password>) -> Server
+        ensures password { result.password ≡ password }
+        ensures asked { (asked : MapdWords) → IsAsked asked self → IsAsked asked result }
+    {
+        let mut server = self;
+        server.password = password;
+        server
+    }
 }
 
 /// How serving ended.

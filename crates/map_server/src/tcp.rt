@@ -22,7 +22,7 @@ use devices::Sink;
 use map_keeper::Shared;
 use mio::net::TcpListener;
 use mio::{Poll, Waker};
-use server_state::ServerState;
+use server_state::{Password, ServerState};
 use std::alloc::Global;
 use std::io;
 use std::net::Net;
@@ -87,8 +87,8 @@ pub(crate) fn bind<'a, H: Net>(
     })
 }
 
-/// The crews that serve, each with a poll, how many sessions they may begin, to how many clients at once, and what readers of the server's
-/// numbers are answered with.
+/// The crews that serve, each with a poll, how many sessions they may begin, to how many clients at once, the password that clients of
+/// commands have to show, and what readers of the server's numbers are answered with.
 #[derive(Drop)]
 pub(crate) struct Ready {
     pub(crate) crews: Vec<Crew>,
@@ -96,6 +96,7 @@ pub(crate) struct Ready {
     pub(crate) gates: Gates,
     pub(crate) quotas: Quotas,
     pub(crate) limits: Limits,
+    pub(crate) password: Option<Password>,
     pub(crate) watch: Option<Watch>,
 }
 
@@ -106,6 +107,7 @@ impl Ready {
         crews: Vec<Crew>,
         quotas: Quotas,
         limits: Limits,
+        password: Option<Password>,
         watcher: Option<Pass>,
     ) -> Ready
         ensures crews { result.crews ≡ crews }
@@ -124,6 +126,7 @@ impl Ready {
             gates,
             quotas,
             limits,
+            password,
             watch: Watch::of(metrics, watcher),
         }
     }
@@ -281,8 +284,10 @@ pub(crate) fn serve_ports<'a, H: Threads + Wait + Clock + Sync, E: Sink + Send>(
         gates,
         quotas,
         limits,
+        password,
         watch,
     } = ready;
+    let state = state.with_password(password);
     let entrance = Entrance::new(
         Arrivals::new(rt, alloc, limits, errors),
         &state,

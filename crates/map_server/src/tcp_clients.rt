@@ -11,7 +11,7 @@ use crate::stopwatch::Stopwatch;
 use crate::sweeps::Sweeps;
 use bin_stripes::Pass;
 use bpf_model::NoMemory;
-use crews::{Clients, Event, NextSweep, Parting, Protocol, Standing};
+use crews::{Clients, Event, NextSweep, Parting, Protocol, Standing, Tokens};
 use devices::Sink;
 use mio::{Events, Interest, Poll, Token};
 use sessions::SessionEnd;
@@ -287,7 +287,14 @@ impl<'a, 'b, 'c, H: Wait + Clock, E: Sink> Clients<Connection> for TcpClients<'a
         }
     }
 
-    fn ended(&mut self, _pass: &Pass, seat: Option<usize>, channel: Connection, parting: Parting) {
+    fn ended(
+        &mut self,
+        _pass: &Pass,
+        seat: Option<usize>,
+        channel: Connection,
+        _tokens: Tokens<'_>,
+        parting: Parting,
+    ) {
         if let Some(seat) = seat {
             self.seats.leave(seat);
         }

@@ -43,6 +43,8 @@ pub struct MapdWords {
     pub keep: Option<String>,
     /// How many seconds it is from one save to the next.
     pub keep_seconds: u64,
+    /// The file whose first line is the password that clients of Redis have to show; none: they needn't.
+    pub password_file: Option<String>,
     /// The address of the port whose clients read the server's numbers over HTTP; none: there is no such port.
     pub metrics: Option<String>,
 }
@@ -293,6 +295,13 @@ fn mapd_command<'a>(alloc: Global, wanted: bool) -> Result<clap::Command<'a>, Al
         ))?
         .arg(text_option(
             alloc,
+            "password-file",
+            "FILE",
+            false,
+            "File whose first line is the password that clients of Redis have to show [default: none]",
+        ))?
+        .arg(text_option(
+            alloc,
             "metrics",
             "HOST:PORT",
             false,
@@ -345,6 +354,7 @@ fn words_of(alloc: Global, matches: &ArgMatches<'_>) -> Result<MapdWords, NoMemo
         memory: widened(given_number(matches, "memory")),
         keep: given_text(alloc, matches, "keep")?,
         keep_seconds: u64::from(given_size(matches, "keep-seconds", KEEP_SECONDS_DEFAULT)),
+        password_file: given_text(alloc, matches, "password-file")?,
         metrics: given_text(alloc, matches, "metrics")?,
     })
 }

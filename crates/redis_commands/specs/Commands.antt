@@ -64,14 +64,16 @@ pub data WalkAsked : Type 0 where
   RandomKey : WalkAsked
   RemoveAll : WalkAsked
 
--- what is asked of the connection
+-- what is asked of the connection; of `Hello` a password and a name; `Auth` is AUTH with a password alone, `AuthDefault` with the user
+-- `default` before it
 pub data ConnectionAsked : Type 0 where
   Ping : Option (List ℕ) → ConnectionAsked
   Echo : List ℕ → ConnectionAsked
   Quit : ConnectionAsked
   Select : ConnectionAsked
-  Hello : Option (List ℕ) → ConnectionAsked
-  Auth : ConnectionAsked
+  Hello : Option (List ℕ) → Option (List ℕ) → ConnectionAsked
+  Auth : List ℕ → ConnectionAsked
+  AuthDefault : List ℕ → ConnectionAsked
   ClientId : ConnectionAsked
   ClientName : ConnectionAsked
   SetClientName : List ℕ → ConnectionAsked
@@ -132,8 +134,8 @@ pub data Fault : Type 0 where
   HelloOption : List ℕ → Fault
   BadClientName : Fault
   LongClientName : Fault
-  NoPassword : Fault
   WrongPassword : Fault
+  NotAuthenticated : Fault
   NegativeKeys : Fault
   TooManyKeys : Fault
   ScriptShape : Fault
@@ -185,8 +187,9 @@ connection_by (connection.Ping word) = Ping (text word)
 connection_by (connection.Echo word) = Echo word.now
 connection_by connection.Quit = Quit
 connection_by connection.Select = Select
-connection_by (connection.Hello name) = Hello (text name)
-connection_by connection.Auth = Auth
+connection_by (connection.Hello password name) = Hello (text password) (text name)
+connection_by (connection.Auth password) = Auth password.now
+connection_by (connection.AuthDefault password) = AuthDefault password.now
 connection_by connection.ClientId = ClientId
 connection_by connection.ClientName = ClientName
 connection_by (connection.SetClientName name) = SetClientName name.now
@@ -243,8 +246,8 @@ fault_by fault.NoProtocol = NoProtocol
 fault_by (fault.HelloOption option) = HelloOption option.now
 fault_by fault.BadClientName = BadClientName
 fault_by fault.LongClientName = LongClientName
-fault_by fault.NoPassword = NoPassword
 fault_by fault.WrongPassword = WrongPassword
+fault_by fault.NotAuthenticated = NotAuthenticated
 fault_by fault.NegativeKeys = NegativeKeys
 fault_by fault.TooManyKeys = TooManyKeys
 fault_by fault.ScriptShape = ScriptShape

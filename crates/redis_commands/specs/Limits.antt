@@ -29,9 +29,14 @@ abbrev pub IsName : List ℕ → Type 0
 IsName name = length name ≤ NAME_BYTES
 
 abbrev pub IsConnectionWithin : ConnectionAsked → Type 0
-IsConnectionWithin (Hello name) = IfSome name IsName
+IsConnectionWithin (Hello password name) = IfSome name IsName
 IsConnectionWithin (SetClientName name) = IsName name
 IsConnectionWithin connection = Unit {0}
+
+-- it asks for nothing of the map
+abbrev pub IsOfConnection : Asked → Type 0
+IsOfConnection (Connection connection) = Unit {0}
+IsOfConnection asked = ⊥
 
 -- each key is within its limit, each value that is named or that a range makes, and a client's name
 abbrev pub IsWithinLimits : Asked → Type 0

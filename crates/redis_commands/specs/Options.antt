@@ -196,10 +196,10 @@ client_name name = if is_client_name name then short_name name else Err BadClien
 abbrev pub is_default : List ℕ → Bool
 is_default user = bytes_eq user (codes "default")
 
--- SETNAME with the client's name, AUTH with a user and any password
+-- SETNAME with the client's name, AUTH with a user and a password
 pub data HelloOption : Type 0 where
   Named : List ℕ → HelloOption
-  User : List ℕ → HelloOption
+  User : List ℕ → List ℕ → HelloOption
 
 -- the option that a word and its value spell
 abbrev pub naming : List ℕ → List ℕ → Result HelloOption Fault
@@ -217,20 +217,21 @@ each_hello_option [] = Ok []
 each_hello_option (word ∷ []) = Err (Bad_hello_option word)
 each_hello_option (word ∷ value ∷ []) = hello_before (naming word value) (Ok [])
 each_hello_option (word ∷ value ∷ password ∷ more) =
-    if is (codes "auth") word then hello_before (Ok (User value)) (each_hello_option more)
+    if is (codes "auth") word then hello_before (Ok (User value password)) (each_hello_option more)
     else hello_before (naming word value) (each_hello_option (password ∷ more))
 
--- what options come to: the client's name, if one is given, and whether another user than Redis' own is named
+-- what options come to: the client's name and a password, if they are given, and whether another user than Redis' own is named
 pub record HelloOptions : Type 0 where
   pub name : Option (List ℕ)
+  pub password : Option (List ℕ)
   pub is_stranger : Bool
 
 abbrev pub with_hello_option : HelloOptions → HelloOption → HelloOptions
 with_hello_option options (Named name) = record options { name = Some name }
-with_hello_option options (User user) = record options { is_stranger = not (is_default user) }
+with_hello_option options (User user password) = record options { password = Some password; is_stranger = not (is_default user) }
 
 abbrev pub no_hello_options : HelloOptions
-no_hello_options = record { name = None; is_stranger = false }
+no_hello_options = record { name = None; password = None; is_stranger = false }
 
 -- of several options of one kind the last one holds
 abbrev pub hello_options : List (List ℕ) → Result HelloOptions Fault

@@ -96,13 +96,13 @@ scan_with options read = given read (λ option. Ok (with_scan_option options opt
 
 abbrev pub hello_option_by : ShownHelloOption → HelloOption
 hello_option_by (hello.Named name) = Named name.now
-hello_option_by (hello.User user) = User user.now
+hello_option_by (hello.User user password) = User user.now password.now
 
 abbrev pub naming_by : Result ShownHelloOption CommandFault → Result HelloOption Fault
 naming_by r = read_by hello_option_by r
 
 abbrev pub hello_view : ShownHello → HelloOptions
-hello_view options = record { name = text options.name; is_stranger = options.is_stranger }
+hello_view options = record { name = text options.name; password = text options.password; is_stranger = options.is_stranger }
 
 abbrev pub hello_by : Result ShownHello CommandFault → Result HelloOptions Fault
 hello_by r = read_by hello_view r

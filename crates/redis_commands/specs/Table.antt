@@ -1,5 +1,5 @@
 -- The table of the commands: what the arguments of each one ask for. How many there may be says `arity_of`.
-use Rattle.std.specs.Prelude.{ℕ, zero, suc, ◌+◌, ◌%◌, Bool, false, ◌||◌, not, List, [], ◌∷◌, length, drop, codes, ℤ, pos, negsuc, neg_ℤ, Option, Some, None, Result, Ok, Err, unwrap_or, nat_eq, nat_lt, max, if◌then◌else◌}
+use Rattle.std.specs.Prelude.{ℕ, zero, suc, ◌+◌, ◌%◌, Bool, true, false, ◌||◌, not, List, [], ◌∷◌, length, drop, codes, ℤ, pos, negsuc, neg_ℤ, Option, Some, None, Result, Ok, Err, unwrap_or, nat_eq, nat_lt, max, if◌then◌else◌}
 use Rattle.std.specs.List.{list_any}
 use Rattle.bpf_model.specs.declared.limits.TheConstants.{KEY_BYTES, VALUE_BYTES}
 use Rattle.redis_commands.specs.declared.name.Name.{Name}
@@ -38,11 +38,11 @@ use Rattle.redis_commands.specs.Commands.{Asked, Act, WalkAsked, ConnectionAsked
 use Rattle.redis_commands.specs.Commands.Asked.{OnKey, OnKeys, SetEach, Walk, Connection, Server, Program}
 use Rattle.redis_commands.specs.Commands.Act.{Get, Set, SetIfAbsent, GetAndSet, GetAndDelete, Length, TypeName, GetAndExpire, Expire, Persist, TimeLeft, Add, Append, GetRange, SetRange, DeleteIfEqual}
 use Rattle.redis_commands.specs.Commands.WalkAsked.{CountAll, Scan, Keys, RandomKey, RemoveAll}
-use Rattle.redis_commands.specs.Commands.ConnectionAsked.{Ping, Echo, Quit, Select, Hello, Auth, ClientId, ClientName, SetClientName, SetClientInfo, ClientList, Commands, CommandCount, CommandDocs, Config, Reset}
+use Rattle.redis_commands.specs.Commands.ConnectionAsked.{Ping, Echo, Quit, Select, Hello, Auth, AuthDefault, ClientId, ClientName, SetClientName, SetClientInfo, ClientList, Commands, CommandCount, CommandDocs, Config, Reset}
 use Rattle.redis_commands.specs.Commands.ServerAsked.{Info, Save, SaveLater, LastSaved, Shutdown}
 use Rattle.redis_commands.specs.Commands.ProgramAsked.{Load, Exists, Call, Eval}
 use Rattle.redis_commands.specs.Commands.Condition.{Always, IfEqual}
-use Rattle.redis_commands.specs.Commands.Fault.{UnknownCommand, UnknownSub, WrongCount, WrongSubCount, Syntax, DecrementOverflow, OffsetOutOfRange, LongKey, LongValue, BadCursor, BadIndex, WideIndex, BadVersion, NoProtocol, NoPassword, WrongPassword, NegativeKeys, TooManyKeys, ScriptShape, NoScript, NoDebug, WebRequest}
+use Rattle.redis_commands.specs.Commands.Fault.{UnknownCommand, UnknownSub, WrongCount, WrongSubCount, Syntax, DecrementOverflow, OffsetOutOfRange, LongKey, LongValue, BadCursor, BadIndex, WideIndex, BadVersion, NoProtocol, WrongPassword, NotAuthenticated, NegativeKeys, TooManyKeys, ScriptShape, NoScript, NoDebug, WebRequest}
 
 -- ---- commands of one key
 
@@ -184,25 +184,25 @@ abbrev pub is_two : ℤ → Bool
 is_two (pos n) = nat_eq n 2
 is_two (negsuc n) = false
 
-abbrev pub hello_as : Option (List ℕ) → Result ConnectionAsked Fault
-hello_as None = Ok (Hello None)
-hello_as (Some name) = given (short_name name) (λ name. Ok (Hello (Some name)))
+abbrev pub hello_as : Option (List ℕ) → Option (List ℕ) → Result ConnectionAsked Fault
+hello_as password None = Ok (Hello password None)
+hello_as password (Some name) = given (short_name name) (λ name. Ok (Hello password (Some name)))
 
 -- version 2, or none
 abbrev pub hello : List (List ℕ) → Result ConnectionAsked Fault
-hello [] = Ok (Hello None)
+hello [] = Ok (Hello None None)
 hello (version ∷ options) = elim (integer_of version) [
   | None ↦ Err BadVersion
   | Some n ↦ if is_two n then
       given (hello_options options)
-      (λ o. if o.is_stranger then Err WrongPassword else hello_as o.name)
+      (λ o. if o.is_stranger then Err WrongPassword else hello_as o.password o.name)
       else Err NoProtocol
 ]
 
--- there is no password
+-- there is one user
 abbrev pub auth : List (List ℕ) → Result ConnectionAsked Fault
-auth (password ∷ []) = Err NoPassword
-auth (user ∷ password ∷ []) = if is_default user then Ok Auth else Err WrongPassword
+auth (password ∷ []) = Ok (Auth password)
+auth (user ∷ password ∷ []) = if is_default user then Ok (AuthDefault password) else Err WrongPassword
 auth args = Err Syntax
 
 -- the one map has the number 0
@@ -318,4 +318,42 @@ asked_of now [] = Err (UnknownCommand [] [])
 asked_of now (first ∷ args) = elim (named first) [
   | None ↦ if is_web first then Err WebRequest else Err (UnknownCommand first args)
   | Some name ↦ if is_allowed (arity_of name) (length args) then asked_as now name args else Err (WrongCount name)
+]
+
+-- ---- a client that has not authenticated
+
+-- it may call these commands
+abbrev pub is_open : ConnectionName → Bool
+is_open c.Ping = true
+is_open c.Quit = true
+is_open c.Hello = true
+is_open c.Auth = true
+is_open c.Reset = true
+is_open name = false
+
+-- why it may not call another one; a fault of a second name, or of how many arguments follow it, comes first
+abbrev pub closed_parent : Parent → List (List ℕ) → Fault
+closed_parent parent [] = NotAuthenticated
+closed_parent parent (first ∷ args) = elim (sub_named parent first) [
+  | None ↦ UnknownSub parent first
+  | Some sub ↦ if is_allowed (sub_arity sub) (length args) then NotAuthenticated else WrongSubCount sub
+]
+
+abbrev pub closed_server : ServerName → Fault
+closed_server sv.Debug = NoDebug
+closed_server name = NotAuthenticated
+
+abbrev pub asked_if_open : Name → List (List ℕ) → Result Asked Fault
+asked_if_open (n.Connection name) args =
+    if is_open name then given (connection_of name args) (λ connection. Ok (Connection connection)) else Err NotAuthenticated
+asked_if_open (n.Server name) args = Err (closed_server name)
+asked_if_open (n.Parent parent) args = Err (closed_parent parent args)
+asked_if_open name args = Err NotAuthenticated
+
+-- what its words ask for
+abbrev pub asked_before_auth : List (List ℕ) → Result Asked Fault
+asked_before_auth [] = Err (UnknownCommand [] [])
+asked_before_auth (first ∷ args) = elim (named first) [
+  | None ↦ if is_web first then Err WebRequest else Err (UnknownCommand first args)
+  | Some name ↦ if is_allowed (arity_of name) (length args) then asked_if_open name args else Err (WrongCount name)
 ]

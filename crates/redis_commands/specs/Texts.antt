@@ -3,7 +3,7 @@ use Rattle.std.specs.Prelude.{ℕ, Bool, ◌+◌, ◌-◌, ◌||◌, List, [], �
 use Rattle.std.specs.List.{list_all}
 use Rattle.redis_commands.specs.Names.{name_text, sub_word, parent_of, parent_text, parent_capitals}
 use Rattle.redis_commands.specs.Commands.{Fault}
-use Rattle.redis_commands.specs.Commands.Fault.{UnknownCommand, UnknownSub, WrongCount, WrongSubCount, Syntax, NotAnInteger, DecrementOverflow, OffsetOutOfRange, LongKey, LongValue, BadExpire, ExpireOption, NxWithOthers, GtWithLt, BadCursor, BadIndex, WideIndex, BadVersion, NoProtocol, HelloOption, BadClientName, LongClientName, NoPassword, WrongPassword, NegativeKeys, TooManyKeys, ScriptShape, NoScript, NoDebug, WebRequest}
+use Rattle.redis_commands.specs.Commands.Fault.{UnknownCommand, UnknownSub, WrongCount, WrongSubCount, Syntax, NotAnInteger, DecrementOverflow, OffsetOutOfRange, LongKey, LongValue, BadExpire, ExpireOption, NxWithOthers, GtWithLt, BadCursor, BadIndex, WideIndex, BadVersion, NoProtocol, HelloOption, BadClientName, LongClientName, WrongPassword, NotAuthenticated, NegativeKeys, TooManyKeys, ScriptShape, NoScript, NoDebug, WebRequest}
 
 -- up to the first byte 0
 abbrev pub until_0 : List ℕ → List ℕ
@@ -64,8 +64,8 @@ fault_text NoProtocol = codes "NOPROTO unsupported protocol version"
 fault_text (HelloOption option) = codes "ERR Syntax error in HELLO option '" ++ shown 128 option ++ codes "'"
 fault_text BadClientName = codes "ERR Client names cannot contain spaces, newlines or special characters."
 fault_text LongClientName = codes "ERR client name exceeds maximum allowed size (64)"
-fault_text NoPassword = codes "ERR AUTH <password> called without any password configured for the default user. Are you sure your configuration is correct?"
 fault_text WrongPassword = codes "WRONGPASS invalid username-password pair or user is disabled."
+fault_text NotAuthenticated = codes "NOAUTH Authentication required."
 fault_text NegativeKeys = codes "ERR Number of keys can't be negative"
 fault_text TooManyKeys = codes "ERR Number of keys can't be greater than number of args"
 fault_text ScriptShape = codes "ERR not served: a script is called with one key"

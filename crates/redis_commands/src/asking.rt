@@ -4,8 +4,8 @@ ghost use Rattle.redis_commands.specs.Names.{walk_arity, connection_arity, sub_a
 ghost use Rattle.redis_commands.specs.Commands.{answer_by, fault_by, asked_by, walk_by, connection_by, server_by, program_by, text, texts};
 ghost use Rattle.redis_commands.specs.Commands.Fault.{UnknownCommand, WebRequest};
 ghost use Rattle.redis_commands.specs.Reading.{read_by, natural_by, call_by};
-ghost use Rattle.redis_commands.specs.Table.{cursor_of, flush, scan, walk_of, hello_as, hello, auth, select, connection_of, save_later, last_save, shutdown, server_of, has_long_value, call_with, program_of, asked_of_sub, asked_of_parent, asked_as, asked_of, is_web};
-ghost use Rattle.redis_commands.specs.Limits.{IsWithinLimits, IsConnectionWithin, IsProgramWithin, IsKey, IsValue};
+ghost use Rattle.redis_commands.specs.Table.{cursor_of, flush, scan, walk_of, hello_as, hello, auth, select, connection_of, save_later, last_save, shutdown, server_of, has_long_value, call_with, program_of, asked_of_sub, asked_of_parent, asked_as, asked_of, is_web, is_open, closed_parent, closed_server, asked_if_open, asked_before_auth};
+ghost use Rattle.redis_commands.specs.Limits.{IsWithinLimits, IsOfConnection, IsConnectionWithin, IsProgramWithin, IsKey, IsValue};
 
 use crate::command::{
     Command, ConnectionCommand, LastSave, ProgramCommand, ServerCommand, WalkCommand,
@@ -75,16 +75,25 @@ fn walk_command<'a>(
     }
 }
 
-/// Returns what `HELLO` asks for that gives the client this name, or none.
-fn hello_as<'a>(name: Option<&'a [u8]>) -> Result<ConnectionCommand<'a>, CommandFault<'a>>
-    ensures asked { read_by connection_by result ≡ hello_as (text name.entry) }
+/// Returns what `HELLO` asks for that shows this password and gives the client this name, or none.
+fn hello_as<'a>(
+    password: Option<&'a [u8]>,
+    name: Option<&'a [u8]>,
+) -> Result<ConnectionCommand<'a>, CommandFault<'a>>
+    ensures asked { read_by connection_by result ≡ hello_as (text password.entry) (text name.entry) }
     ensures limits { IfOk result (λ c. IsConnectionWithin (connection_by c)) }
 {
     match name {
-        None => Ok(ConnectionCommand::Hello { name: None }),
+        None => Ok(ConnectionCommand::Hello {
+            password,
+            name: None,
+        }),
         Some(name) => {
             let name = short_name(name)?;
-            Ok(ConnectionCommand::Hello { name: Some(name) })
+            Ok(ConnectionCommand::Hello {
+                password,
+                name: Some(name),
+            })
         }
     }
 }
@@ -95,7 +104,7 @@ fn hello<'a>(args: &'a [&'a [u8]]) -> Result<ConnectionCommand<'a>, CommandFault
     ensures limits { IfOk result (λ c. IsConnectionWithin (connection_by c)) }
 {
     let [version, options @ ..] = args else {
-        return Ok(ConnectionCommand::Hello { name: None });
+        return hello_as(None, None);
     };
     let Some(version) = integer(version) else {
         return Err(CommandFault::BadVersion);
@@ -107,7 +116,7 @@ fn hello<'a>(args: &'a [&'a [u8]]) -> Result<ConnectionCommand<'a>, CommandFault
     if options.is_stranger {
         return Err(CommandFault::WrongPassword);
     }
-    hello_as(options.name)
+    hello_as(options.password, options.name)
 }
 
 /// Returns what the arguments of `AUTH` ask for.
@@ -116,10 +125,10 @@ fn auth<'a>(args: &'a [&'a [u8]]) -> Result<ConnectionCommand<'a>, CommandFault<
     ensures limits { IfOk result (λ c. IsConnectionWithin (connection_by c)) }
 {
     match args {
-        [_] => Err(CommandFault::NoPassword),
-        [user, _] => {
+        [password] => Ok(ConnectionCommand::Auth { password }),
+        [user, password] => {
             if is_default(user) {
-                Ok(ConnectionCommand::Auth)
+                Ok(ConnectionCommand::AuthDefault { password })
             } else {
                 Err(CommandFault::WrongPassword)
             }
@@ -396,4 +405,94 @@ pub fn command_of<'a>(words: &'a [&'a [u8]], now: u64) -> Result<Command<'a>, Co
         return Err(CommandFault::WrongCount(name));
     }
     command_as(name, now, args)
+}
+
+/// Returns why a client that has not authenticated may not call a command whose first argument names what it does.
+fn closed_parent<'a>(parent: Parent, args: &'a [&'a [u8]]) -> CommandFault<'a>
+    ensures { fault_by result ≡ closed_parent parent (texts args.now) }
+{
+    let [first, rest @ ..] = args else {
+        return CommandFault::NotAuthenticated;
+    };
+    let Some(sub) = parent.sub_named(first) else {
+        return CommandFault::UnknownSub {
+            parent,
+            word: first,
+        };
+    };
+    if !sub.arity().allows(rest.len()) {
+        return CommandFault::WrongSubCount(sub);
+    }
+    CommandFault::NotAuthenticated
+}
+
+/// Returns why a client that has not authenticated may not call a command of the server.
+fn closed_server<'a>(name: ServerName) -> CommandFault<'a>
+    ensures { fault_by result ≡ closed_server name }
+{
+    match name {
+        ServerName::Debug => CommandFault::NoDebug,
+        _ => CommandFault::NotAuthenticated,
+    }
+}
+
+/// Whether a client that has not authenticated may call this command.
+fn is_open(name: ConnectionName) -> bool
+    ensures { result ≡ is_open name }
+{
+    match name {
+        ConnectionName::Ping
+        | ConnectionName::Quit
+        | ConnectionName::Hello
+        | ConnectionName::Auth
+        | ConnectionName::Reset => true,
+        ConnectionName::Echo | ConnectionName::Select => false,
+    }
+}
+
+/// Returns what the arguments of the command of this name ask for, if a client may call it that has not authenticated.
+fn open_command<'a>(name: Name, args: &'a [&'a [u8]]) -> Answer<'a>
+    requires { is_allowed (arity_of name) (length args.now) ≡ true }
+    ensures asked { answer_by result ≡ asked_if_open name (texts args.now) }
+    ensures limits { IfOk result (λ c. IsWithinLimits (asked_by c)) }
+    ensures connection { IfOk result (λ c. IsOfConnection (asked_by c)) }
+{
+    match name {
+        Name::Connection(name) => {
+            if !is_open(name) {
+                return Err(CommandFault::NotAuthenticated);
+            }
+            Ok(Command::Connection(connection_command(name, args)?))
+        }
+        Name::Server(name) => Err(closed_server(name)),
+        Name::Parent(parent) => Err(closed_parent(parent, args)),
+        Name::Key(_) | Name::Keys(_) | Name::Walk(_) | Name::Program(_) => {
+            Err(CommandFault::NotAuthenticated)
+        }
+    }
+}
+
+/// Returns what the words of a client ask for that has not authenticated. It is what `command_of` returns for `PING`, `QUIT`, `AUTH`,
+/// `HELLO` and `RESET`, and for words that name no command or have a wrong number of arguments. The command borrows the words. No
+/// memory is asked for.
+///
+/// `NotAuthenticated` says that the client has to authenticate before it calls this command. Other errors are as those of `command_of`.
+pub fn command_before_auth<'a>(words: &'a [&'a [u8]]) -> Result<Command<'a>, CommandFault<'a>>
+    ensures asked { answer_by result ≡ asked_before_auth (texts words.now) }
+    ensures limits { IfOk result (λ c. IsWithinLimits (asked_by c)) }
+    ensures connection { IfOk result (λ c. IsOfConnection (asked_by c)) }
+{
+    let [first, args @ ..] = words else {
+        return Err(CommandFault::UnknownCommand {
+            name: &[],
+            args: &[],
+        });
+    };
+    let Some(name) = Name::named(first) else {
+        return Err(unknown(first, args));
+    };
+    if !name.arity().allows(args.len()) {
+        return Err(CommandFault::WrongCount(name));
+    }
+    open_command(name, args)
 }

@@ -168,10 +168,20 @@ pub enum ConnectionCommand<'a> {
     Quit,
     /// `SELECT 0`
     Select,
-    /// `HELLO` or `HELLO 2`, with the client's name if it gives one, as in `SetClientName`.
-    Hello { name: Option<&'a [u8]> },
-    /// `AUTH default` with any password, which a Redis without a password takes.
-    Auth,
+    /// `HELLO` or `HELLO 2`, with the password of the user `default` and the client's name, if it gives them. The name is as in
+    /// `SetClientName`.
+    Hello {
+        password: Option<&'a [u8]>,
+        name: Option<&'a [u8]>,
+    },
+    /// `AUTH` with a password alone.
+    Auth {
+        password: &'a [u8],
+    },
+    /// `AUTH default` with a password.
+    AuthDefault {
+        password: &'a [u8],
+    },
     /// `CLIENT ID`
     ClientId,
     /// `CLIENT GETNAME`
@@ -189,7 +199,9 @@ pub enum ConnectionCommand<'a> {
     /// `COMMAND DOCS`
     CommandDocs,
     /// `CONFIG GET`
-    Config { parameters: &'a [&'a [u8]] },
+    Config {
+        parameters: &'a [&'a [u8]],
+    },
     /// `RESET`
     Reset,
 }

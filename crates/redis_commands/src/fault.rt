@@ -60,10 +60,10 @@ pub enum CommandFault<'a> {
     BadClientName,
     /// A client's name is above `NAME_BYTES`. Redis has no such limit.
     LongClientName,
-    /// `AUTH` with a password alone.
-    NoPassword,
-    /// `AUTH` of a user that there is not.
+    /// `AUTH` of a user that there is not, or with a wrong password.
     WrongPassword,
+    /// The client has to authenticate before it may call this command.
+    NotAuthenticated,
     /// `EVAL` or `EVALSHA` with a number of keys below 0.
     NegativeKeys,
     /// `EVAL` or `EVALSHA` with fewer arguments than keys.
@@ -120,10 +120,9 @@ impl CommandFault<'_> {
             CommandFault::BadClientName =>
                 "ERR Client names cannot contain spaces, newlines or special characters.",
             CommandFault::LongClientName => "ERR client name exceeds maximum allowed size (64)",
-            CommandFault::NoPassword =>
-                "ERR AUTH <password> called without any password configured for the default user. Are you sure your configuration is correct?",
             CommandFault::WrongPassword =>
                 "WRONGPASS invalid username-password pair or user is disabled.",
+            CommandFault::NotAuthenticated => "NOAUTH Authentication required.",
             CommandFault::NegativeKeys => "ERR Number of keys can't be negative",
             CommandFault::TooManyKeys => "ERR Number of keys can't be greater than number of args",
             CommandFault::ScriptShape => "ERR not served: a script is called with one key",

@@ -340,8 +340,8 @@ pub(crate) fn is_default(user: &[u8]) -> bool
 pub(crate) enum HelloOption<'a> {
     /// `SETNAME`
     Named(&'a [u8]),
-    /// `AUTH`; the password is of no account.
-    User(&'a [u8]),
+    /// `AUTH`
+    User { user: &'a [u8], password: &'a [u8] },
 }
 
 /// Returns the option that gives the client's name.
@@ -366,9 +366,13 @@ fn first_hello_option<'a>(
     ensures within { IfOk result (λ first. (1 ≤ first.1) × (first.1 ≤ 3) × (first.1 ≤ length words.now)) }
 {
     match words {
-        [word, value, _, ..] => {
+        [word, value, password, ..] => {
             if is("auth", word) {
-                Ok((HelloOption::User(value), 3))
+                let user = HelloOption::User {
+                    user: value,
+                    password,
+                };
+                Ok((user, 3))
             } else {
                 Ok((naming(word, value)?, 2))
             }
@@ -383,6 +387,8 @@ fn first_hello_option<'a>(
 #[derive(Clone, Copy)]
 pub(crate) struct HelloOptions<'a> {
     pub(crate) name: Option<&'a [u8]>,
+    /// The password that is given last.
+    pub(crate) password: Option<&'a [u8]>,
     /// Another user than `default` is named last.
     pub(crate) is_stranger: bool,
 }
@@ -397,7 +403,8 @@ impl<'a> HelloOptions<'a> {
                 name: Some(name),
                 ..self
             },
-            HelloOption::User(user) => HelloOptions {
+            HelloOption::User { user, password } => HelloOptions {
+                password: Some(password),
                 is_stranger: !is_default(user),
                 ..self
             },
@@ -410,6 +417,7 @@ impl<'a> HelloOptions<'a> {
     {
         let mut options = HelloOptions {
             name: None,
+            password: None,
             is_stranger: false,
         };
         let mut left = words;

@@ -7,6 +7,7 @@ pub mod SetLemmas
 pub mod ReadLemmas
 pub mod TalkLemmas
 pub mod FaultLemmas
+pub mod GuardLemmas
 pub mod InfoLemmas
 pub mod EndLemmas
 pub mod WalkLemmas

@@ -1,13 +1,14 @@
 -- What each command of words does, and the answer to words that are none.
-use Rattle.std.specs.Prelude.{◌≡◌, ℕ, List, [], true, Result, Ok, Err}
+use Rattle.std.specs.Prelude.{◌≡◌, ℕ, List, [], Bool, true, false, Option, Some, None, Result, Ok, Err}
 use Rattle.bin_stripes.specs.Passes.{PassState}
 use Rattle.resp.specs.Replies.{error_bytes}
 use Rattle.redis_commands.specs.Commands.{Asked, Fault}
 use Rattle.redis_commands.specs.Commands.Fault.{WebRequest}
+use Rattle.redis_commands.specs.Commands.ConnectionAsked.{Hello, Auth, AuthDefault}
 use Rattle.redis_commands.specs.Commands.Asked.{OnKey, OnKeys, SetEach, Walk, Connection, Server, Program}
-use Rattle.redis_commands.specs.Table.{asked_of}
+use Rattle.redis_commands.specs.Table.{asked_of, asked_before_auth}
 use Rattle.redis_commands.specs.Texts.{fault_text}
-use Rattle.redis_service.specs.States.{TalkState}
+use Rattle.redis_service.specs.States.{TalkState, is_authenticated}
 use Rattle.redis_service.specs.Answers.{AnswersKey, AnswersKeys, AnswersSetEach, pairs}
 use Rattle.redis_service.specs.Walks.{AnswersWalk}
 use Rattle.redis_service.specs.Connections.{AnswersConnection}
@@ -17,6 +18,18 @@ use Rattle.redis_service.specs.Programs.{AnswersProgram}
 -- the talk stays as it is
 abbrev pub Same : TalkState → TalkState → Type 0
 Same talk next = next ≡ talk
+
+-- the password that a command shows
+abbrev pub shown_by : Result Asked Fault → Option (List ℕ)
+shown_by (Ok (Connection (Hello shown name))) = shown
+shown_by (Ok (Connection (Auth shown))) = Some shown
+shown_by (Ok (Connection (AuthDefault shown))) = Some shown
+shown_by read = None
+
+-- a command of a client that isn't authenticated makes no call on the map, and authenticates it only by the right password
+abbrev pub Guards : TalkState → PassState → Result Asked Fault → TalkState → PassState → Type 0
+Guards talk old read next new =
+    is_authenticated talk ≡ false → (new ≡ old) × (is_authenticated next ≡ true → shown_by read ≡ talk.password)
 
 -- over the time at which the calls are made
 module _ (now : ℕ) where
@@ -36,6 +49,12 @@ module _ (now : ℕ) where
   AnswersRead talk old (Err WebRequest) written next new = (written ≡ []) × (next ≡ record talk { is_over = true }) × (new ≡ old)
   AnswersRead talk old (Err fault) written next new = (written ≡ error_bytes (fault_text fault)) × (new ≡ old) × Same talk next
 
-  -- words of a client
+  -- words of a client, which are read by whether it is authenticated
+  abbrev pub read_of : Bool → List (List ℕ) → Result Asked Fault
+  read_of true words = asked_of now words
+  read_of false words = asked_before_auth words
+
   abbrev pub AnswersWords : TalkState → PassState → List (List ℕ) → List ℕ → TalkState → PassState → Type 0
-  AnswersWords talk old words written next new = AnswersRead talk old (asked_of now words) written next new
+  AnswersWords talk old words written next new =
+      AnswersRead talk old (read_of (is_authenticated talk) words) written next new
+      × Guards talk old (read_of (is_authenticated talk) words) next new

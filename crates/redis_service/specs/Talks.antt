@@ -5,7 +5,7 @@ use Rattle.resp.specs.Grammar.{Spells, IsIgnored, IsBegun, IsFaulty}
 use Rattle.resp.specs.Replies.{error_bytes}
 use Rattle.resp.specs.Faults.{fault_message}
 use Rattle.resp.specs.declared.fault.RespFault.{RespFault}
-pub use Rattle.redis_service.specs.States.{TalkState, begun, without_rest, ended, renamed}
+pub use Rattle.redis_service.specs.States.{TalkState, begun, without_rest, ended, renamed, is_authenticated}
 use Rattle.redis_service.specs.Lines.{no_memory_line}
 use Rattle.redis_service.specs.Sending.{IsPart}
 use Rattle.redis_service.specs.Commands.{AnswersWords}

@@ -1,22 +1,23 @@
 //! Commands of the connection.
-ghost use Rattle.std.specs.Prelude.{◌≡◌, ℕ, List};
+ghost use Rattle.std.specs.Prelude.{◌≡◌, ℕ, List, Some};
 ghost use Rattle.bin_stripes.specs.Passes.{PassState};
 ghost use Rattle.devices.specs.Devices.{CanWrite};
 ghost use Rattle.resp.specs.Replies.{value_bytes};
 ghost use Rattle.redis_commands.specs.Commands.{connection_by, text};
-ghost use Rattle.redis_service.specs.Connections.{AnswersConnection, Greets, Renames, SaysIfRoom, hello_bytes, name_line, ping_line};
+ghost use Rattle.redis_service.specs.Connections.{AnswersConnection, AnswersHello, Greets, LetsIn, LetsInBy, Renames, SaysIfRoom, hello_bytes, name_line, ping_line, wrong_password_line};
 ghost use Rattle.redis_service.specs.Replied.{replied_bytes};
 ghost use Rattle.redis_service.specs.Sending.{Sends};
 ghost use Rattle.redis_service.specs.Server as server;
+ghost use Rattle.redis_service.specs.States.{showing};
 ghost use Rattle.redis_service.specs.Texts.{ok_line};
 
 use crate::reply::Replied;
 use crate::server::{client_line, put_settings};
-use crate::talk::RedisTalk;
+use crate::talk::{RedisTalk, Showing};
 use bpf_model::NoMemory;
 use devices::{Failed, Sink};
-use redis_commands::ConnectionCommand;
-use resp::put_value;
+use redis_commands::{CommandFault, ConnectionCommand};
+use resp::{put_error, put_value};
 use std::alloc::Global;
 
 /// What `HELLO` says before the client's number.
@@ -51,7 +52,7 @@ fn name_of(name: &[u8]) -> Replied
 /// Renames the client, and says OK.
 fn rename<W: Sink>(
     alloc: Global,
-    talk: &mut RedisTalk,
+    talk: &mut RedisTalk<'_>,
     name: &[u8],
     sink: &mut W,
 ) -> Result<(), Failed>
@@ -70,7 +71,7 @@ fn rename<W: Sink>(
 /// Renames the client, and says what a `HELLO` asks for.
 fn greet<W: Sink>(
     alloc: Global,
-    talk: &mut RedisTalk,
+    talk: &mut RedisTalk<'_>,
     name: &[u8],
     sink: &mut W,
 ) -> Result<(), Failed>
@@ -86,10 +87,10 @@ fn greet<W: Sink>(
     }
 }
 
-/// Says what a `HELLO` asks for, and renames the client if there is a name.
-fn hello<W: Sink>(
+/// Says what a `HELLO` asks for that is welcome, and renames the client if there is a name.
+fn welcome<W: Sink>(
     alloc: Global,
-    talk: &mut RedisTalk,
+    talk: &mut RedisTalk<'_>,
     name: Option<&[u8]>,
     sink: &mut W,
 ) -> Result<(), Failed>
@@ -101,6 +102,74 @@ fn hello<W: Sink>(
     match name {
         Some(name) => greet(alloc, talk, name, sink),
         None => put_hello(talk.number(), sink),
+    }
+}
+
+/// What `HELLO` says to a client that has to show the password.
+const STRANGER: &[u8] =
+    b"NOAUTH HELLO must be called with the client already authenticated, otherwise the HELLO AUTH <user> <pass> option can be used to authenticate the client and select the RESP protocol version at the same time";
+
+/// What `AUTH` with a password alone says if there is none.
+const NO_PASSWORD: &[u8] =
+    b"ERR AUTH <password> called without any password configured for the default user. Are you sure your configuration is correct?";
+
+/// Says that the password is wrong.
+fn say_wrong<W: Sink>(sink: &mut W) -> Result<(), Failed>
+    requires { CanWrite (W.state sink.old) }
+    ensures { Sends result (W.state sink.old) (W.state sink.new) wrong_password_line }
+{
+    put_error(sink, CommandFault::WrongPassword.text().as_slice())
+}
+
+/// Answers a `HELLO`. Who shows the right password, or has shown it, is let in and welcome.
+fn hello<W: Sink>(
+    alloc: Global,
+    talk: &mut RedisTalk<'_>,
+    shown: Option<&[u8]>,
+    name: Option<&[u8]>,
+    sink: &mut W,
+) -> Result<(), Failed>
+    requires { CanWrite (W.state sink.old) }
+    ensures number { talk.new.number ≡ talk.old.number }
+    ensures answers { (pass : PassState) → (written : List ℕ) × Sends result (W.state sink.old) (W.state sink.new) written
+        × AnswersHello (showing talk.old (text shown.entry)) talk.old pass (text name.entry) written talk.new pass }
+{
+    match talk.showing(shown) {
+        Showing::Right => {
+            talk.let_in();
+            welcome(alloc, talk, name, sink)
+        }
+        Showing::Wrong => say_wrong(sink),
+        Showing::Missing => Replied::Error(STRANGER).send(&[], sink),
+    }
+}
+
+/// Lets a client in that shows the right password.
+fn let_in<W: Sink>(talk: &mut RedisTalk<'_>, shown: &[u8], sink: &mut W) -> Result<(), Failed>
+    requires { CanWrite (W.state sink.old) }
+    ensures number { talk.new.number ≡ talk.old.number }
+    ensures answers { (pass : PassState) → (written : List ℕ) × Sends result (W.state sink.old) (W.state sink.new) written
+        × LetsIn (showing talk.old (Some shown.now)) talk.old pass written talk.new pass }
+{
+    match talk.showing(Some(shown)) {
+        Showing::Right => {
+            talk.let_in();
+            Replied::Simple(b"OK").send(&[], sink)
+        }
+        Showing::Wrong | Showing::Missing => say_wrong(sink),
+    }
+}
+
+/// Lets a client in that shows the right password alone, if there is one.
+fn let_in_by<W: Sink>(talk: &mut RedisTalk<'_>, shown: &[u8], sink: &mut W) -> Result<(), Failed>
+    requires { CanWrite (W.state sink.old) }
+    ensures number { talk.new.number ≡ talk.old.number }
+    ensures answers { (pass : PassState) → (written : List ℕ) × Sends result (W.state sink.old) (W.state sink.new) written
+        × LetsInBy talk.old.password talk.old pass shown.now written talk.new pass }
+{
+    match talk.password {
+        None => Replied::Error(NO_PASSWORD).send(&[], sink),
+        Some(_) => let_in(talk, shown, sink),
     }
 }
 
@@ -116,7 +185,7 @@ fn ping<W: Sink>(word: Option<&[u8]>, sink: &mut W) -> Result<(), Failed>
 }
 
 /// Says the line of the client.
-fn put_client<W: Sink>(alloc: Global, talk: &RedisTalk, sink: &mut W) -> Result<(), Failed>
+fn put_client<W: Sink>(alloc: Global, talk: &RedisTalk<'_>, sink: &mut W) -> Result<(), Failed>
     requires { CanWrite (W.state sink.old) }
     ensures { (written : List ℕ) × Sends result (W.state sink.old) (W.state sink.new) written
         × SaysIfRoom (value_bytes (server.client_line talk.now.number talk.now.name)) written }
@@ -130,7 +199,7 @@ fn put_client<W: Sink>(alloc: Global, talk: &RedisTalk, sink: &mut W) -> Result<
 /// Answers a command of the connection.
 pub fn answer_connection<W: Sink>(
     alloc: Global,
-    talk: &mut RedisTalk,
+    talk: &mut RedisTalk<'_>,
     command: &ConnectionCommand<'_>,
     sink: &mut W,
 ) -> Result<(), Failed>
@@ -147,7 +216,8 @@ pub fn answer_connection<W: Sink>(
             Replied::Simple(b"OK").send(&[], sink)
         }
         ConnectionCommand::Select => Replied::Simple(b"OK").send(&[], sink),
-        ConnectionCommand::Auth => Replied::Simple(b"OK").send(&[], sink),
+        ConnectionCommand::Auth { password } => let_in_by(talk, password, sink),
+        ConnectionCommand::AuthDefault { password } => let_in(talk, password, sink),
         ConnectionCommand::SetClientInfo => Replied::Simple(b"OK").send(&[], sink),
         ConnectionCommand::Commands => Replied::Array(0).send(&[], sink),
         ConnectionCommand::CommandDocs => Replied::Array(0).send(&[], sink),
@@ -157,10 +227,10 @@ pub fn answer_connection<W: Sink>(
             name_of(name).send(name, sink)
         }
         ConnectionCommand::SetClientName(name) => { rename(alloc, talk, name, sink) }
-        ConnectionCommand::Hello { name } => hello(alloc, talk, name, sink),
+        ConnectionCommand::Hello { password, name } => hello(alloc, talk, password, name, sink),
         ConnectionCommand::ClientId => Replied::Count(talk.number()).send(&[], sink),
         ConnectionCommand::Reset => {
-            talk.forget_name(alloc);
+            talk.reset(alloc);
             Replied::Simple(b"RESET").send(&[], sink)
         }
         ConnectionCommand::ClientList => put_client(alloc, talk, sink),

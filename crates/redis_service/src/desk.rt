@@ -2,14 +2,15 @@
 ghost use Rattle.std.specs.Prelude.{◌≡◌, ◌≢◌, ℕ, List, true, false, All, OnOk, OnErr, IfOk, IsTrue};
 ghost use Rattle.bin_stripes.specs.Passes.{PassState, ServesSameMap};
 ghost use Rattle.devices.specs.Devices.{CanWrite, TakesBytes, TakesThenFails};
-ghost use Rattle.redis_commands.specs.Commands.{asked_by, act_by, server_by, fault_by, texts};
+ghost use Rattle.redis_commands.specs.Commands.{answer_by, asked_by, act_by, server_by, fault_by, texts};
 ghost use Rattle.redis_commands.specs.Commands.Asked.{OnKey};
-ghost use Rattle.redis_commands.specs.Limits.{IsKey, IsWithinLimits};
+ghost use Rattle.redis_commands.specs.Limits.{IsKey, IsOfConnection, IsWithinLimits};
 ghost use Rattle.redis_service.specs.Answers.{AnswersKey, AnswersKeys};
-ghost use Rattle.redis_service.specs.Commands.{AnswersCommand, AnswersRead, AnswersWords};
+ghost use Rattle.redis_service.specs.Commands.{AnswersCommand, AnswersRead, AnswersWords, read_of};
 ghost use Rattle.redis_service.specs.Saving.{AnswersInfo, AnswersServer};
 ghost use Rattle.redis_service.specs.Sending.{Sends};
 ghost use Rattle.redis_service.specs.Sweeps.{Sweeps};
+ghost use Rattle.redis_service.specs.States.{is_authenticated};
 ghost use Rattle.redis_service.specs.Stops.{Stops, AnswersAll, FailsAt, TellsLast, Taken};
 ghost use Rattle.redis_service.specs.Talks.{AnswersPiece, BreaksPiece};
 
@@ -30,7 +31,9 @@ use bin_stripes::{Pass, StripedMap};
 use bumpalo::Bump;
 use devices::{Failed, Sink, write_all};
 use key_walks::count_all;
-use redis_commands::{Command, CommandFault, KeyAct, KeysAct, ServerCommand, command_of};
+use redis_commands::{
+    Command, CommandFault, KeyAct, KeysAct, ServerCommand, command_before_auth, command_of,
+};
 use redis_scripts::Scripts;
 use resp::{Next, NextFault, put_error};
 use server_state::{WorkerCounts, WorkerState};
@@ -76,7 +79,7 @@ impl<'a, 's> Model for RedisDesk<'a, 's> {
 /// Tells why nothing more is read from this rest, if it is to be told, and keeps the rest if a command begins in it.
 fn finish<W: Sink>(
     alloc: Global,
-    talk: &mut RedisTalk,
+    talk: &mut RedisTalk<'_>,
     fault: Option<NextFault>,
     rest: &[u8],
     sink: &mut W,
@@ -111,12 +114,13 @@ fn finish<W: Sink>(
 
 /// Says why words are no command. The talk is over after what looks like a request of the web, which is not answered.
 fn refuse<W: Sink>(
-    talk: &mut RedisTalk,
+    talk: &mut RedisTalk<'_>,
     fault: &CommandFault<'_>,
     sink: &mut W,
 ) -> Result<(), Failed>
     requires { CanWrite (W.state sink.old) }
     ensures number { talk.new.number ≡ talk.old.number }
+    ensures locked { is_authenticated talk.new ≡ is_authenticated talk.old }
     ensures answers { (now : ℕ) (pass : PassState) → (written : List ℕ) × Sends result (W.state sink.old) (W.state sink.new) written
         × AnswersRead now talk.old pass (Err (fault_by fault.now)) written talk.new pass }
 {
@@ -126,6 +130,23 @@ fn refuse<W: Sink>(
             Ok(())
         }
         _ => put_error(sink, fault.text().as_slice()),
+    }
+}
+
+/// Reads the words of a client: what they ask for, or their fault.
+fn read<'w>(
+    talk: &RedisTalk<'_>,
+    words: &'w [&'w [u8]],
+    now: u64,
+) -> Result<Command<'w>, CommandFault<'w>>
+    ensures asked { answer_by result ≡ read_of now (is_authenticated talk.now) (texts words.now) }
+    ensures limits { IfOk result (λ c. IsWithinLimits (asked_by c)) }
+    ensures open { is_authenticated talk.now ≡ false → IfOk result (λ c. IsOfConnection (asked_by c)) }
+{
+    if talk.is_authenticated() {
+        command_of(words, now)
+    } else {
+        command_before_auth(words)
     }
 }
 
@@ -266,7 +287,7 @@ impl<'a, 's> RedisDesk<'a, 's> {
         &mut self,
         moment: &Moment<'_, H>,
         pass: &mut Pass,
-        talk: &mut RedisTalk,
+        talk: &mut RedisTalk<'_>,
         command: &ServerCommand<'_>,
         sink: &mut W,
     ) -> Result<(), Failed>
@@ -298,7 +319,7 @@ impl<'a, 's> RedisDesk<'a, 's> {
         &mut self,
         moment: &Moment<'_, H>,
         pass: &mut Pass,
-        talk: &mut RedisTalk,
+        talk: &mut RedisTalk<'_>,
         command: &Command<'_>,
         sink: &mut W,
     ) -> Result<(), Failed>
@@ -345,7 +366,7 @@ impl<'a, 's> RedisDesk<'a, 's> {
         &mut self,
         moment: &Moment<'_, H>,
         pass: &mut Pass,
-        talk: &mut RedisTalk,
+        talk: &mut RedisTalk<'_>,
         words: &[&[u8]],
         sink: &mut W,
     ) -> Result<(), Failed>
@@ -360,7 +381,7 @@ impl<'a, 's> RedisDesk<'a, 's> {
             × AnswersWords moment.now.time talk.old pass.old (texts words.now) written talk.new pass.new }
     {
         self.state.counts.count_command();
-        match command_of(words, moment.time) {
+        match read(talk, words, moment.time) {
             Ok(command) => self.answer_command(moment, pass, talk, &command, sink),
             Err(fault) => refuse(talk, &fault, sink),
         }
@@ -372,7 +393,7 @@ impl<'a, 's> RedisDesk<'a, 's> {
         &mut self,
         moment: &Moment<'_, H>,
         pass: &mut Pass,
-        talk: &mut RedisTalk,
+        talk: &mut RedisTalk<'_>,
         reader: &mut Reader<'b, 'w>,
         sink: &mut W,
     ) -> Result<Option<NextFault>, Failed>
@@ -402,7 +423,7 @@ impl<'a, 's> RedisDesk<'a, 's> {
         &mut self,
         moment: &Moment<'_, H>,
         pass: &mut Pass,
-        talk: &mut RedisTalk,
+        talk: &mut RedisTalk<'_>,
         bytes: &'b [u8],
         sink: &mut W,
     ) -> Result<(Option<NextFault>, &'b [u8]), Failed>
@@ -427,7 +448,7 @@ impl<'a, 's> RedisDesk<'a, 's> {
         &mut self,
         moment: &Moment<'_, H>,
         pass: &mut Pass,
-        talk: &mut RedisTalk,
+        talk: &mut RedisTalk<'_>,
         bytes: &[u8],
         sink: &mut W,
     ) -> Result<(), TalkEnd>
@@ -453,7 +474,7 @@ impl<'a, 's> RedisDesk<'a, 's> {
         &mut self,
         moment: &Moment<'_, H>,
         pass: &mut Pass,
-        talk: &mut RedisTalk,
+        talk: &mut RedisTalk<'_>,
         held: Vec<u8>,
         sink: &mut W,
     ) -> Result<(), TalkEnd>
@@ -484,7 +505,7 @@ impl<'a, 's> RedisDesk<'a, 's> {
         &mut self,
         moment: &Moment<'_, H>,
         pass: &mut Pass,
-        talk: &mut RedisTalk,
+        talk: &mut RedisTalk<'_>,
         piece: &[u8],
         sink: &mut W,
     ) -> Result<(), TalkEnd>

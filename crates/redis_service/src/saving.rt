@@ -87,7 +87,7 @@ fn ends(server: &ServerState, save: LastSave) -> bool
 /// Ends the server and the talk, or says that there is no file.
 pub fn shut_down<W: Sink>(
     server: &ServerState,
-    talk: &mut RedisTalk,
+    talk: &mut RedisTalk<'_>,
     save: LastSave,
     sink: &mut W,
 ) -> Result<(), Failed>

@@ -1,38 +1,57 @@
 //! A talk with one client between two pieces.
 ghost use Rattle.std.specs.Prelude.{◌≡◌, [], ◌↔◌, ◌≢◌, IsTrue, IsFalse, true};
-ghost use Rattle.redis_service.specs.States.{begun, ended, renamed};
+ghost use Rattle.redis_commands.specs.Commands.{text};
+ghost use Rattle.server_state.specs.Passwords.{lent};
+ghost use Rattle.redis_service.specs.States.{begun, ended, renamed, is_authenticated, let_in, reset, showing};
 
+use server_state::Password;
 use std::alloc::Global;
 use std::marker::Model;
 
-/// A talk with one client between two pieces of its bytes: the beginning of a command, whether the talk is over, and the client's
-/// name and number.
+/// What a client shows that wants to be let in.
+#[derive(Clone, Copy, Debug, PartialEq, Eq)]
+pub(crate) enum Showing {
+    /// The right password, or it has shown that before, or needn't.
+    Right,
+    /// Another password.
+    Wrong,
+    /// No password, though it has to.
+    Missing,
+}
+
+/// A talk with one client between two pieces of its bytes: the beginning of a command, whether the talk is over, the client's name and
+/// number, the password that it has to show, and whether it was let in.
 #[derive(Drop)]
-pub struct RedisTalk {
+pub struct RedisTalk<'a> {
     pub(crate) rest: Vec<u8>,
     pub(crate) is_over: bool,
     pub(crate) name: Vec<u8>,
     pub(crate) number: u64,
+    pub(crate) password: Option<&'a Password>,
+    pub(crate) is_let_in: bool,
 }
 
-impl Model for RedisTalk {
+impl<'a> Model for RedisTalk<'a> {
+    ghost use Rattle.server_state.specs.Passwords.{lent};
     ghost use Rattle.redis_service.specs.States.{TalkState};
 
     ghost Value = { TalkState };
 
-    ghost view = { λ t. record { rest = t.rest.items; is_over = t.is_over; name = t.name.items; number = t.number } };
+    ghost view = { λ t. record { rest = t.rest.items; is_over = t.is_over; name = t.name.items; number = t.number; password = lent t.password; is_let_in = t.is_let_in } };
 }
 
-impl RedisTalk {
-    /// Starts a talk with the client of this number. Takes no memory.
-    pub fn new(alloc: Global, number: u64) -> RedisTalk
-        ensures { result ≡ begun number }
+impl<'a> RedisTalk<'a> {
+    /// Starts a talk with the client of this number, which has to show the password, if there is one. Takes no memory.
+    pub fn new(alloc: Global, number: u64, password: Option<&'a Password>) -> RedisTalk<'a>
+        ensures { result ≡ begun number (lent password.entry) }
     {
         RedisTalk {
             rest: Vec::new(alloc),
             is_over: false,
             name: Vec::new(alloc),
             number,
+            password,
+            is_let_in: false,
         }
     }
 
@@ -71,11 +90,43 @@ impl RedisTalk {
         self.is_over = true;
     }
 
-    /// Takes the client's name away.
-    pub(crate) fn forget_name(&mut self, alloc: Global)
-        ensures { self.new ≡ renamed self.old [] }
+    /// Takes the client's name away, and it has to show the password again.
+    pub(crate) fn reset(&mut self, alloc: Global)
+        ensures { self.new ≡ reset self.old }
     {
         self.name = Vec::new(alloc);
+        self.is_let_in = false;
+    }
+
+    /// Tests whether the client needn't show a password any more.
+    pub(crate) fn is_authenticated(&self) -> bool
+        ensures { result ≡ is_authenticated self.now }
+    {
+        self.password.is_none() || self.is_let_in
+    }
+
+    /// Says what a client shows by these bytes, or without any.
+    pub(crate) fn showing(&self, shown: Option<&[u8]>) -> Showing
+        ensures { result ≡ showing self.now (text shown.entry) }
+    {
+        let Some(shown) = shown else {
+            return if self.is_authenticated() {
+                Showing::Right
+            } else {
+                Showing::Missing
+            };
+        };
+        match self.password {
+            Some(password) if !password.is(shown) => Showing::Wrong,
+            _ => Showing::Right,
+        }
+    }
+
+    /// Lets the client in.
+    pub(crate) fn let_in(&mut self)
+        ensures { self.new ≡ let_in self.old }
+    {
+        self.is_let_in = true;
     }
 
     /// Ends the talk.

@@ -1,7 +1,7 @@
 //! Rows that a Redis 7.0.15 answered.
 use redis_commands::{
     Command, CommandFault, Condition, ExpireRule, KeyAct, Lifetime, TimeForm, TimeUnit,
-    WalkCommand, command_of, matches,
+    WalkCommand, command_before_auth, command_of, matches,
 };
 use std::alloc::{AllocError, Global};
 use std::test::Fail;
@@ -20,7 +20,7 @@ fn words_of<'a>(alloc: Global, line: &'a str) -> Result<Vec<&'a [u8]>, AllocErro
 }
 
 /// Lines of words, and the text of the error.
-const FAULTS: [(&str, &str); 48] = [
+const FAULTS: [(&str, &str); 47] = [
     (
         "foo",
         "ERR unknown command 'foo', with args beginning with: ",
@@ -130,10 +130,6 @@ const FAULTS: [(&str, &str); 48] = [
         "WRONGPASS invalid username-password pair or user is disabled.",
     ),
     (
-        "auth x",
-        "ERR AUTH <password> called without any password configured for the default user. Are you sure your configuration is correct?",
-    ),
-    (
         "auth u x",
         "WRONGPASS invalid username-password pair or user is disabled.",
     ),
@@ -169,6 +165,40 @@ fn error_texts_are_those_of_redis(rt: HostRuntime) -> Result<(), Fail> {
             Ok(_) => assert!(rt; false, "{line}"),
             Err(fault) => assert!(rt; fault.text().as_slice() == text.as_bytes(), "{line}"),
         }
+    }
+    Ok(())
+}
+
+/// What a client is told that has not authenticated: lines of words, and the text of the error.
+const LOCKED: [(&str, &str); 8] = [
+    ("get a", "NOAUTH Authentication required."),
+    ("set a 1 foo", "NOAUTH Authentication required."),
+    ("mset a 1 b", "NOAUTH Authentication required."),
+    ("get", "ERR wrong number of arguments for 'get' command"),
+    (
+        "foo",
+        "ERR unknown command 'foo', with args beginning with: ",
+    ),
+    ("client list", "NOAUTH Authentication required."),
+    (
+        "client foo",
+        "ERR unknown subcommand 'foo'. Try CLIENT HELP.",
+    ),
+    ("auth a b c", "ERR syntax error"),
+];
+
+#[test]
+fn clients_are_locked_out_as_by_redis(rt: HostRuntime) -> Result<(), Fail> {
+    for (line, text) in LOCKED {
+        let words = words_of(rt.alloc(), line)?;
+        match command_before_auth(&words) {
+            Ok(_) => assert!(rt; false, "{line}"),
+            Err(fault) => assert!(rt; fault.text().as_slice() == text.as_bytes(), "{line}"),
+        }
+    }
+    for line in ["ping", "quit", "reset", "hello 2", "auth x"] {
+        let words = words_of(rt.alloc(), line)?;
+        assert!(rt; command_before_auth(&words).is_ok(), "{line}");
     }
     Ok(())
 }

@@ -6,11 +6,13 @@
 #![tactic(auto)]
 
 mod counts;
+mod password;
 mod resident;
 mod saves;
 mod state;
 
 pub use counts::{Counts, WorkerCounts};
+pub use password::{PASSWORD_BYTES, Password};
 pub use resident::resident_bytes;
 pub use saves::SaveFate;
 pub use state::{ServerState, WorkerState};

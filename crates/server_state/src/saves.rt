@@ -1,11 +1,14 @@
 //! Saves that are asked for, and what comes of them.
 
 use std::sync::Wait;
-use std::sync::atomic::{AtomicU64, Ordering};
+use std::sync::atomic::{AtomicBool, AtomicU64, Ordering};
 use std::time::Duration;
 
 /// How often one who waits for a save looks, before it gives up.
 const MOST_LOOKS: u64 = 600;
+
+/// How often one who waits for a save looks, before it gives up if no thread saves.
+const LOOKS_ALONE: u64 = 10;
 
 /// How long it sleeps between two looks at most, in milliseconds.
 const LOOK_MILLIS: u64 = 100;
@@ -24,6 +27,8 @@ pub enum SaveFate {
 /// Saves that are asked for, by tickets that count up from 1, and the last ones that were written or given up.
 #[derive(Drop)]
 pub(crate) struct Saves {
+    /// Whether a thread saves.
+    saver: AtomicBool,
     asked: AtomicU64,
     written: AtomicU64,
     given_up: AtomicU64,
@@ -36,12 +41,18 @@ impl Saves {
     /// Nobody asked for a save, and none was written.
     pub(crate) fn new() -> Saves {
         Saves {
+            saver: AtomicBool::new(false),
             asked: AtomicU64::new(0),
             written: AtomicU64::new(0),
             given_up: AtomicU64::new(0),
             last_save: AtomicU64::new(0),
             news: AtomicU64::new(0),
         }
+    }
+
+    /// A thread saves from now on.
+    pub(crate) fn begin(&self) {
+        self.saver.store(true, Ordering::SeqCst);
     }
 
     /// Asks for a save, and returns its ticket.
@@ -89,12 +100,17 @@ impl Saves {
         self.last_save.load(Ordering::SeqCst)
     }
 
-    /// Waits for this ticket's save, a minute at most, and returns what came of it.
+    /// Tests whether no thread saves, although one who waits has looked this often.
+    fn is_alone(&self, looks: u64) -> bool {
+        looks >= LOOKS_ALONE && !self.saver.load(Ordering::SeqCst)
+    }
+
+    /// Waits for this ticket's save, a minute at most, or a second if no thread saves. Returns what came of it.
     pub(crate) fn wait_for<H: Wait>(&self, rt: &H, ticket: u64) -> SaveFate {
-        for _ in 0..MOST_LOOKS {
+        for look in 0..MOST_LOOKS {
             let news = self.news.load(Ordering::SeqCst);
             let fate = self.fate(ticket);
-            if fate != SaveFate::Waits {
+            if fate != SaveFate::Waits || self.is_alone(look) {
                 return fate;
             }
             let seen = (news & 0xffff_ffff) as u32;

@@ -1,7 +1,9 @@
 //! What all threads of a server know of it.
-ghost use Rattle.std.specs.Prelude.{◌≡◌, IfOk};
+ghost use Rattle.std.specs.Prelude.{◌≡◌, IfOk, None};
+ghost use Rattle.server_state.specs.Passwords.{lent};
 
 use crate::counts::{Counts, WorkerCounts, sum};
+use crate::password::Password;
 use crate::saves::{SaveFate, Saves};
 use bpf_model::NoMemory;
 use std::alloc::Global;
@@ -20,6 +22,7 @@ pub struct ServerState {
     workers: Vec<WorkerCounts>,
     /// What threads counted that are no workers.
     others: WorkerCounts,
+    password: Option<Password>,
 }
 
 /// What one worker knows of its server, and where it counts.
@@ -42,6 +45,7 @@ impl ServerState {
     ) -> Result<ServerState, NoMemory>
         ensures keeps { IfOk result (λ state. state.keeps ≡ keeps) }
         ensures began { IfOk result (λ state. state.began ≡ began) }
+        ensures open { IfOk result (λ state. state.password ≡ None) }
     {
         let mut all = Vec::new(alloc);
         for _ in 0..workers {
@@ -56,7 +60,24 @@ impl ServerState {
             saves_at_end: AtomicBool::new(keeps),
             workers: all,
             others: WorkerCounts::new(),
+            password: None,
         })
+    }
+
+    /// The same server, whose clients of commands have to show this password first, if there is one.
+    pub fn with_password(self, password: Option<Password>) -> ServerState
+        ensures password { result.password ≡ password }
+        ensures keeps { result.keeps ≡ self.keeps }
+        ensures began { result.began ≡ self.began }
+    {
+        ServerState { password, ..self }
+    }
+
+    /// Returns the password that clients of commands have to show first; none if they needn't.
+    pub fn password(&self) -> Option<&Password>
+        ensures { lent result ≡ self.now.password }
+    {
+        self.password.as_ref()
     }
 
     /// Tests whether the server keeps its map in a file.
@@ -71,6 +92,11 @@ impl ServerState {
         ensures { result ≡ self.now.began }
     {
         self.began
+    }
+
+    /// A thread saves from now on, whenever somebody asks for it.
+    pub fn saver_began(&self) {
+        self.saves.begin();
     }
 
     /// Asks for a save, and returns its ticket.
@@ -110,7 +136,7 @@ impl ServerState {
         self.saves.last_save()
     }
 
-    /// Waits for this ticket's save, a minute at most, and returns what came of it.
+    /// Waits for this ticket's save, a minute at most, or a second if no thread saves. Returns what came of it.
     pub fn wait_for_save<H: Wait>(&self, rt: &H, ticket: u64) -> SaveFate {
         self.saves.wait_for(rt, ticket)
     }

@@ -3,9 +3,11 @@ mod clients;
 
 use crate::bpfmap::memory::{ROOM, Room};
 use map_server::{
-    KeepFault, KeptFile, MapdWords, OnDisk, Opener, StreamSink, WordsFault, mapd_on, mapd_words,
+    KeepFault, KeptFile, MapdWords, OnDisk, Opener, PasswordFiles, StreamSink, WordsFault, mapd_on,
+    mapd_words,
 };
 use std::alloc::{AllocError, Global};
+use std::io;
 use std::net::{Net, TcpListener, TcpStream};
 use std::random::RandomSource;
 use std::rt::Clock;
@@ -28,6 +30,12 @@ struct NoFiles;
 impl Opener for NoFiles {
     fn open(&self, _path: &str) -> Result<KeptFile<OnDisk>, KeepFault> {
         Err(KeepFault::Unreadable)
+    }
+}
+
+impl PasswordFiles for NoFiles {
+    fn read_start(&self, _path: &str, _room: &mut [u8]) -> io::Result<usize> {
+        Err(io::Error::from(io::ErrorKind::NotFound))
     }
 }
 
@@ -76,6 +84,7 @@ fn asked(
         memory: None,
         keep: None,
         keep_seconds: 1,
+        password_file: None,
         metrics: None,
     })
 }

@@ -7,7 +7,7 @@ use crate::bpfmap::memory::{Pieces, ROOM, Room};
 use atomic_methods::{Call, Reply};
 use bin_stripes::{Gate, Pass, Place, StripedMap};
 use bpf_model::{Key, NoMemory, Value};
-use crews::{Accept, Crew, serve};
+use crews::{Accept, Crew, Tokens, serve};
 use map_server::{SessionEnd, StreamSink, StreamSource};
 use program_registry::Registry;
 use std::alloc::Global;
@@ -59,6 +59,7 @@ impl Accept<StreamSource<Pieces<'static>>, StreamSink<Room>> for Clients {
         _reader: StreamSource<Pieces<'static>>,
         writer: StreamSink<Room>,
         end: SessionEnd,
+        _tokens: Tokens<'_>,
     ) {
         if end == SessionEnd::Closed && writer.into_inner().bytes.as_slice() == COUNTED {
             self.right.fetch_add(1, Ordering::SeqCst);

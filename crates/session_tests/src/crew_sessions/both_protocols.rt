@@ -2,7 +2,7 @@
 use super::two_crews;
 use bin_stripes::{OpenGate, Pass};
 use bpf_model::NoMemory;
-use crews::{Clients, Event, NextSweep, Parting, Protocol, Standing, Worker, attend};
+use crews::{Clients, Event, NextSweep, Parting, Protocol, Standing, Tokens, Worker, attend};
 use devices::{Channel, Received, Sent};
 use map_server::SessionEnd;
 use program_registry::Registry;
@@ -93,7 +93,14 @@ impl Clients<Line> for Two {
 
     fn served(&mut self, _seat: usize, _standing: Standing) {}
 
-    fn ended(&mut self, _pass: &Pass, seat: Option<usize>, channel: Line, parting: Parting) {
+    fn ended(
+        &mut self,
+        _pass: &Pass,
+        seat: Option<usize>,
+        channel: Line,
+        _tokens: Tokens<'_>,
+        parting: Parting,
+    ) {
         let answers = if seat == Some(0) { PUT_DONE } else { GOT };
         let is_closed = parting == Parting::Ended(SessionEnd::Closed);
         if is_closed && channel.sent.as_slice() == answers {

@@ -79,7 +79,7 @@ fn serve_beside<
     address: &str,
 ) -> (Result<Vec<Crew>, NoMemory>, io::Result<bool>)
     requires crews { All (λ crew. IsCrewOf map.now crew) crews.items }
-    requires serves { A.serves map.now }
+    requires serves { A.serves accept.now map.now registry.now }
     ensures { IfOk result.0 (λ back. All (λ crew. IsCrewOf map.now crew) back.items) }
 {
     let alloc = rt.alloc();
@@ -87,7 +87,7 @@ fn serve_beside<
         rt,
         move || -> Result<Vec<Crew>, NoMemory>
             requires crews { All (λ crew. IsCrewOf map.now crew) crews.items }
-            requires serves { A.serves map.now }
+            requires serves { A.serves accept.now map.now registry.now }
             ensures { IfOk result (λ back. All (λ crew. IsCrewOf map.entry.now crew) back.items) }
         { serve(rt, alloc, accept, map, registry, crews, &OpenGate) },
         move || merge_twice(rt, address),
@@ -122,7 +122,7 @@ fn serve_two<
     address: &str,
 ) -> Result<bool, Fail>
     requires crews { All (λ crew. IsCrewOf map.now crew) crews.items }
-    requires serves { A.serves map.now }
+    requires serves { A.serves accept.now map.now registry.now }
 {
     let (back, merged) = serve_beside(rt, accept, map, registry, crews, address);
     let merged = merged?;

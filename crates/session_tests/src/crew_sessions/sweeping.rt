@@ -3,7 +3,7 @@ use super::both_protocols::Line;
 use super::two_crews;
 use bin_stripes::{OpenGate, Pass};
 use bpf_model::NoMemory;
-use crews::{Clients, Event, NextSweep, Parting, Protocol, Standing, Worker, attend};
+use crews::{Clients, Event, NextSweep, Parting, Protocol, Standing, Tokens, Worker, attend};
 use program_registry::Registry;
 use redis_scripts::Scripts;
 use server_state::ServerState;
@@ -65,7 +65,14 @@ impl Clients<Line> for Swept {
 
     fn served(&mut self, _seat: usize, _standing: Standing) {}
 
-    fn ended(&mut self, _pass: &Pass, _seat: Option<usize>, channel: Line, _parting: Parting) {
+    fn ended(
+        &mut self,
+        _pass: &Pass,
+        _seat: Option<usize>,
+        channel: Line,
+        _tokens: Tokens<'_>,
+        _parting: Parting,
+    ) {
         let answers = if self.told < 4 { SET_DONE } else { NONE_LEFT };
         if channel.sent.as_slice() == answers {
             self.served = self.served.saturating_add(1);

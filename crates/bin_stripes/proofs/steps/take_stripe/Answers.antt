@@ -23,8 +23,9 @@ returns-then-try_take_stripe-clause-took g c = let inv = c.loop.invariant in
 
 pub loop-preserved : goal.loop-preserved
 loop-preserved g c = let inv = c.loop.invariant in elim c.else-may_try.branch [
-    else-may_try-via-then-may_try+else-try_take_stripe w ↦
+  | else-may_try-via-then-may_try+else-try_take_stripe w ↦
       (let same = w.try_take_stripe.ensures.same in
       let l = looks_since g.B.Bins.table g.B.NotedBins.noted c.args.table.now.table_id.slots c.args.stripe c.args.seat.now.me.0 c.loop.seat.me w.try_take_stripe.new.seat.me c.args.seat.now.me.1 inv.2 inv.3 (search rules) in
       rw w.seat-is (same.0 ∙ inv.0, same.1 ∙ inv.1, l.0, l.1))
-    | else-may_try-via-else-may_try w ↦ rw w.seat-is inv ]
+  | else-may_try-via-else-may_try w ↦ rw w.seat-is inv
+]

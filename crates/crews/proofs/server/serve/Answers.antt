@@ -39,16 +39,16 @@ served g c =
     )
 
 -- and which sessions moved their crews
-served_clients : (g : _) (c : In-Ok g) → EachSeat (HasServedClients g.R.Source.state g.W.Sink.state g.A.Accept.gave) (map Some c.args.crews.items) c.work-seats.result.0.items
+served_clients : (g : _) (c : In-Ok g) → EachSeat (HasServedClients g.R.Source.state g.W.Sink.state g.A.Accept.gave c.args.registry.now) (map Some c.args.crews.items) c.work-seats.result.0.items
 served_clients g c =
     let all = rw c.in-Ok.is at c.work-seats.ensures in
     let left = c.work-seats.result.0.items in
-    subst (λ (seats : List (Option Crew)). EachSeat (HasServedClients g.R.Source.state g.W.Sink.state g.A.Accept.gave) seats left) c.seated-seats.ensures (
+    subst (λ (seats : List (Option Crew)). EachSeat (HasServedClients g.R.Source.state g.W.Sink.state g.A.Accept.gave c.args.registry.now) seats left) c.seated-seats.ensures (
       all.left,
       λ i d low.
           let one = all.each i d tt low in
-          subst (λ (old : Option Crew). HasServedClients g.R.Source.state g.W.Sink.state g.A.Accept.gave old (slice_index_or left i d)) one.argument_is
-          (subst (λ (new : Option Crew). HasServedClients g.R.Source.state g.W.Sink.state g.A.Accept.gave one.argument.now new) one.left one.call.1),
+          subst (λ (old : Option Crew). HasServedClients g.R.Source.state g.W.Sink.state g.A.Accept.gave c.args.registry.now old (slice_index_or left i d)) one.argument_is
+          (subst (λ (new : Option Crew). HasServedClients g.R.Source.state g.W.Sink.state g.A.Accept.gave c.args.registry.now one.argument.now new) one.left one.call.1),
     )
 
 pub left_of-requires-clause-some : goal.left_of-requires-clause-some
@@ -70,6 +70,6 @@ returns-clause-map g c =
 pub returns-clause-served : goal.returns-clause-served
 returns-clause-served g c =
     let c' = (goal.at.returns-clause-served g c).In-Ok in
-    let Has = HasServedClients g.R.Source.state g.W.Sink.state g.A.Accept.gave in
+    let Has = HasServedClients g.R.Source.state g.W.Sink.state g.A.Accept.gave c.args.registry.now in
     pairwise_of Has (λ old new. Has (Some old) (Some new)) (λ old new here. here) c.args.crews.items c.left_of.result.items
     (subst (λ (seats : List (Option Crew)). EachSeat Has (map Some c.args.crews.items) seats) (sym c.left_of.ensures) (served_clients g c'))

@@ -8,5 +8,5 @@ abbrev pub invariant-loop : goal.invariant-loop
 invariant-loop g l = record {
   of : IsCrewOf l.worker.map.now l.crew;
   same : CarriesSame l.fn.crew l.crew;
-  served : (n : ℕ) × ServesClients g.R.Source.state g.W.Sink.state g.A.Accept.gave n l.fn.crew l.crew;
+  served : (n : ℕ) × ServesClients g.R.Source.state g.W.Sink.state g.A.Accept.gave l.worker.registry.now n l.fn.crew l.crew;
 }

@@ -16,5 +16,6 @@ returns c = record {
   memory = c.widened-4.ensures ∙ c.given_number-4.ensures;
   keep = c.in_ok-given_text-3.ensures;
   keep_seconds = c.from-5.ensures ∙ c.given_size-5.ensures;
-  metrics = c.in_ok-given_text-4.ensures;
+  password_file = c.in_ok-given_text-4.ensures;
+  metrics = c.in_ok-given_text-5.ensures;
 }

@@ -25,7 +25,11 @@ returns-in-Select-clause-answers g c pass =
 
 pub returns-in-Auth-clause-answers : goal.returns-in-Auth-clause-answers
 returns-in-Auth-clause-answers g c pass =
-    (ok_line, sends_of c.send-in-Auth.result (g.W.Sink.state c.args.sink.now) (g.W.Sink.state c.send-in-Auth.new.sink) _ c.send-in-Auth.ensures.ok c.send-in-Auth.ensures.err, rw c.in-Auth.is (refl, refl, refl))
+    let (w, sends, lets) = c.let_in_by.ensures.answers pass in (w, sends, rw c.in-Auth.is lets)
+
+pub returns-in-AuthDefault-clause-answers : goal.returns-in-AuthDefault-clause-answers
+returns-in-AuthDefault-clause-answers g c pass =
+    let (w, sends, lets) = c.let_in.ensures.answers pass in (w, sends, rw c.in-AuthDefault.is lets)
 
 pub returns-in-SetClientInfo-clause-answers : goal.returns-in-SetClientInfo-clause-answers
 returns-in-SetClientInfo-clause-answers g c pass =
@@ -49,7 +53,7 @@ returns-in-ClientId-clause-answers g c pass =
 
 pub returns-in-Reset-clause-answers : goal.returns-in-Reset-clause-answers
 returns-in-Reset-clause-answers g c pass =
-    (simple_bytes (codes "RESET"), sends_of c.send-in-Reset.result (g.W.Sink.state c.args.sink.now) (g.W.Sink.state c.send-in-Reset.new.sink) _ c.send-in-Reset.ensures.ok c.send-in-Reset.ensures.err, rw c.in-Reset.is (refl, c.forget_name.ensures, refl))
+    (simple_bytes (codes "RESET"), sends_of c.send-in-Reset.result (g.W.Sink.state c.args.sink.now) (g.W.Sink.state c.send-in-Reset.new.sink) _ c.send-in-Reset.ensures.ok c.send-in-Reset.ensures.err, rw c.in-Reset.is (refl, c.reset.ensures, refl))
 
 pub returns-in-ClientList-clause-answers : goal.returns-in-ClientList-clause-answers
 returns-in-ClientList-clause-answers g c pass = let (w, sends, says) = c.put_client.ensures in (w, sends, rw c.in-ClientList.is (says, refl, refl))
@@ -70,4 +74,4 @@ returns-in-SetClientName-clause-answers g c pass =
 
 pub returns-in-Hello-clause-answers : goal.returns-in-Hello-clause-answers
 returns-in-Hello-clause-answers g c pass =
-    let (w, sends, greets) = c.hello.ensures.greets pass in (w, sends, rw c.in-Hello.is greets)
+    let (w, sends, answers) = c.hello.ensures.answers pass in (w, sends, rw c.in-Hello.is answers)

@@ -1,12 +1,14 @@
 use Rattle.std.proofs.Common.{sym, subst}
 use Rattle.crews.specs.declared.clients.Protocol.{Protocol}
 use Rattle.crews.specs.Partings.{PartsSo}
-use Rattle.crews.specs.Lives.{exchanges_of}
+use Rattle.program_registry.specs.declared.registry.Registry.{Registry}
+use Rattle.crews.specs.Stations.{no_tokens}
+use Rattle.crews.specs.Lives.{exchanges_of, KeepsTokens}
 use Rattle.crews.proofs.turn.Client.part.Goals as goal
 
 pub ended-requires : goal.ended-requires
 ended-requires g c =
-    let (old, turns, new, n, knows, (low, (came, come, stands))) = c.requires in
+    let (registry, old, turns, new, n, knows, (low, (came, come, stands))) = c.requires in
     let s = c.args.self in
     record {
       old = old;
@@ -20,5 +22,6 @@ ended-requires g c =
       written = stands.written;
       consumed = stands.consumed;
       appended = stands.appended;
+      keeps = subst (λ (r : Registry). KeepsTokens (no_tokens r) (exchanges_of s.number turns) s.tokens) (sym stands.of) stands.keeps;
       parts = subst (λ (protocol : Protocol). PartsSo protocol c.parting_of-parting.result (exchanges_of s.number turns) stands.read stands.written) stands.speaks (c.parting_of-parting.ensures s.talk (exchanges_of s.number turns) stands.read stands.written s.owed.rest (sym c.len.ensures) stands.says);
     }
