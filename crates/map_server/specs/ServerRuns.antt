@@ -49,7 +49,7 @@ IsNotOpened asked opening.NoMemory = CanOpen asked
 -- what is told of it
 abbrev pub TellsOpenFault : OpenFault → Outputs → Outputs → ℕ → Type 0
 TellsOpenFault opening.BadStripes old new status = TellsEnding BadStripes old new status
-TellsOpenFault opening.BadPasses old new status = PrintsRefusal (codes "refused 51 at 0\n") (codes "workers * (1 + team), with --keep and 1, is more than 64\n") old new status
+TellsOpenFault opening.BadPasses old new status = PrintsRefusal (codes "refused 51 at 0\n") (codes "workers * (1 + team), and 1 each for --keep and --metrics, is more than 64\n") old new status
 TellsOpenFault opening.NoMemory old new status = TellsEnding NoMemory old new status
 
 -- ---- serving

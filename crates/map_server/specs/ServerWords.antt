@@ -37,6 +37,7 @@ mapd_options wanted =
     ∷ range_option (codes "keep-seconds") (pos 3600)
     ∷ range_option (codes "memory") (pos 65535)
     ∷ text_option (codes "password-file") false
+    ∷ text_option (codes "metrics") false
     ∷ []
 
 -- a command without subcommands
@@ -67,6 +68,7 @@ pub record AsksFor (rows : List Row) (asked : MapdWords) : Type 0 where
   pub keep : option_map string_bytes asked.keep ≡ first_of (codes "keep") rows
   pub keep_seconds : asked.keep_seconds ≡ given_size rows (codes "keep-seconds") 1
   pub password_file : option_map string_bytes asked.password_file ≡ first_of (codes "password-file") rows
+  pub metrics : option_map string_bytes asked.metrics ≡ first_of (codes "metrics") rows
 
 -- what the words ask for, of which the first is the program's name: clap finds no fault in them, and they ask for this
 abbrev pub AsksServer : List (List ℕ) → MapdWords → Type 0

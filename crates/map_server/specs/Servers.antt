@@ -17,9 +17,10 @@ pub record AreAsked (workers team : ℕ) (crews : List Crew) : Type 0 where
 abbrev pub protocols_of : MapdWords → Protocols
 protocols_of asked = record { frames = is_some asked.listen; commands = is_some asked.redis }
 
--- the map has a pass for each worker, one for each member of its team, and one for its keeper, if it is kept in a file
+-- the map has a pass for each worker, one for each member of its team, one for its keeper, if it is kept in a file, and one by which its
+-- entries are counted, if there is a port for the numbers
 abbrev pub passes_of : MapdWords → ℕ
-passes_of asked = asked.workers * (1 + asked.team) + (if is_some asked.keep then 1 else 0)
+passes_of asked = asked.workers * (1 + asked.team) + (if is_some asked.keep then 1 else 0) + (if is_some asked.metrics then 1 else 0)
 
 -- there is a port for each of these protocols, and no other
 pub record HasPorts (protocols : Protocols) (ports : Ports) : Type 0 where
@@ -28,7 +29,7 @@ pub record HasPorts (protocols : Protocols) (ports : Ports) : Type 0 where
 
 -- the map has the stripes that are asked for; the crews are those that are asked for; each of them may serve as many sessions
 -- as are asked for, within the limits that are; clients speak the protocols of the ports that are, and may load as many scripts
--- as programs; and the map has a keeper if there is a file
+-- as programs; and the map has a keeper if there is a file, and a watcher if there is a port for the numbers
 pub record IsAsked (asked : MapdWords) (server : Server) : Type 0 where
   pub stripes : stripes_of server.map ≡ asked.stripes
   pub crews : AreAsked asked.workers asked.team server.crews.items
@@ -39,3 +40,4 @@ pub record IsAsked (asked : MapdWords) (server : Server) : Type 0 where
   pub protocols : server.protocols ≡ protocols_of asked
   pub scripts : server.scripts ≡ asked.programs
   pub keeper : is_some server.keeper ≡ is_some asked.keep
+  pub watcher : is_some server.watcher ≡ is_some asked.metrics

@@ -161,10 +161,15 @@ impl Bell {
         self.rung.wake_all();
     }
 
-    /// Waits until the workers have ended, at most this long. Returns whether they have.
-    fn wait<H: Wait>(&self, rt: &H, most: Duration) -> bool {
-        self.rung.park_timeout(rt, 0, most);
+    /// Tests whether the workers have ended.
+    pub(crate) fn has_rung(&self) -> bool {
         self.rung.load(Ordering::SeqCst) != 0
+    }
+
+    /// Waits until the workers have ended, at most this long. Returns whether they have.
+    pub(crate) fn wait<H: Wait>(&self, rt: &H, most: Duration) -> bool {
+        self.rung.park_timeout(rt, 0, most);
+        self.has_rung()
     }
 }
 

@@ -14,6 +14,7 @@ mod door;
 mod doors;
 mod entrance;
 mod keeping;
+mod metrics;
 mod opening;
 mod passwords;
 mod patience;

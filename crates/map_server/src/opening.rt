@@ -69,18 +69,18 @@ fn crews_of(
     Ok(crews)
 }
 
-/// The pass of the map's keeper, if it is kept: the last of the passes.
-fn keeper_of(map: &StripedMap, is_kept: bool, passes: &mut Vec<Pass>) -> Option<Pass>
+/// The last of the passes, if it is wanted, for the map's keeper or its watcher.
+fn pass_if(map: &StripedMap, is_wanted: bool, passes: &mut Vec<Pass>) -> Option<Pass>
     requires serve { All (λ pass. pass.map ≡ map.now) passes.old.items }
-    requires some { 1 ≤ vec_len passes.old }
-    ensures some { is_some result ≡ is_kept }
-    ensures keeper { ForSome result (λ pass. pass.map ≡ map.now) }
+    requires some { (if is_wanted then 1 else 0) ≤ vec_len passes.old }
+    ensures some { is_some result ≡ is_wanted }
+    ensures pass { ForSome result (λ pass. pass.map ≡ map.now) }
     ensures serve { All (λ pass. pass.map ≡ map.now) passes.new.items }
-    ensures left { vec_len passes.new + (if is_kept then 1 else 0) ≡ vec_len passes.old }
+    ensures left { vec_len passes.new + (if is_wanted then 1 else 0) ≡ vec_len passes.old }
 {
     // For the proof alone: the clauses name the map.
     let _ = map;
-    if !is_kept {
+    if !is_wanted {
         return None;
     }
     let Some(pass) = passes.pop() else {
@@ -103,7 +103,8 @@ fn server_of(
     ensures { IfOk result (λ server. IsAsked asked.now server) }
 {
     let mut passes = passes;
-    let keeper = keeper_of(&map, asked.keep.is_some(), &mut passes);
+    let keeper = pass_if(&map, asked.keep.is_some(), &mut passes);
+    let watcher = pass_if(&map, asked.metrics.is_some(), &mut passes);
     let registry = Registry::bounded(alloc, asked.programs as usize)?;
     let crews = crews_of(
         alloc,
@@ -127,6 +128,7 @@ fn server_of(
         scripts: asked.programs,
         keeper,
         password: None,
+        watcher,
     })
 }
 

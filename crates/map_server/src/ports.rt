@@ -57,7 +57,7 @@ fn listen<H: Net>(rt: &H, address: &str) -> io::Result<TcpListener> {
 }
 
 /// A listener at the address, if there is one.
-fn listen_at<'a, H: Net>(
+pub(crate) fn listen_at<'a, H: Net>(
     rt: &H,
     address: &'a Option<String>,
 ) -> Result<Option<TcpListener>, ListenFault<'a>>
@@ -87,7 +87,7 @@ fn watch(poll: &Poll, listener: &Option<TcpListener>, token: Token) -> io::Resul
 }
 
 /// Adds the line that tells the address that was bound, if there is a listener.
-fn add_line(
+pub(crate) fn add_line(
     alloc: Global,
     lines: &mut String,
     begin: &str,

@@ -15,7 +15,7 @@ use crate::ports::ListenFault;
 use crate::server::{Served, Server};
 use crate::tcp::{Bound, Ready, bind, serve_ports};
 use crate::telling::Telling;
-use crate::threads::tell_running;
+use crate::threads::{Others, tell_running};
 use crate::words::{MapdWords, WordsFault, mapd_words};
 use bin_stripes::OpenFault;
 use bins::Seed;
@@ -45,7 +45,8 @@ fn tell_fault<W: Sink, E: Sink>(fault: OpenFault, writer: &mut W, errors: &mut E
     match fault {
         OpenFault::BadStripes => Ending::BadStripes.tell(writer, errors),
         OpenFault::BadPasses => {
-            let meaning = b"workers * (1 + team), with --keep and 1, is more than 64\n";
+            let meaning =
+                b"workers * (1 + team), and 1 each for --keep and --metrics, is more than 64\n";
             refuse(b"refused 51 at 0\n", meaning, writer, errors)
         }
         OpenFault::NoMemory => Ending::NoMemory.tell(writer, errors),
@@ -210,7 +211,10 @@ fn serve_bound<H: Threads + Wait + Clock + Sync, K: Opener, W: Sink, E: Sink + S
         host.rt,
         host.alloc,
         workers,
-        server.keeper.is_some(),
+        Others {
+            saves: server.keeper.is_some(),
+            answers: server.watcher.is_some(),
+        },
         &mut telling,
     );
     let Server {
@@ -222,6 +226,7 @@ fn serve_bound<H: Threads + Wait + Clock + Sync, K: Opener, W: Sink, E: Sink + S
         scripts,
         keeper,
         password,
+        watcher,
         ..
     } = server;
     let scripts = Scripts::bounded(host.alloc, &registry, scripts as usize);
@@ -237,7 +242,7 @@ fn serve_bound<H: Threads + Wait + Clock + Sync, K: Opener, W: Sink, E: Sink + S
     if let Err(Failed) = print_at_once(writer, b"ready\n") {
         return tell_failed_write(&mut telling);
     }
-    let ready = Ready::new(bound, crews, quotas, limits, password);
+    let ready = Ready::new(bound, crews, quotas, limits, password, watcher);
     let (served, mut telling) = serve_ports(host.rt, host.alloc, ready, &shared, kept, telling);
     finish(&served, writer, &mut telling)
 }

@@ -37,8 +37,11 @@ pub struct Server {
     pub keeper: Option<Pass>,
     /// The password that clients of commands have to show; none: they needn't.
     pub password: Option<Password>,
+    /// The pass by which the map's entries are counted, if there is a port for the server's numbers.
+    pub watcher: Option<Pass>,
     ghost serve: { All (λ crew. IsCrewOf map crew) crews.items },
     ghost keeps: { ForSome keeper (λ pass. pass.map ≡ map) },
+    ghost watches: { ForSome watcher (λ pass. pass.map ≡ map) },
 }
 
 impl Server {

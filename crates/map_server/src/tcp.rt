@@ -1,5 +1,5 @@
 //! The ports that `mapd` listens on, and their clients.
-ghost use Rattle.std.specs.Prelude.{◌≡◌, IfOk, IfSome, IsErr, IsSomeAnd, All, vec_len};
+ghost use Rattle.std.specs.Prelude.{◌≡◌, IfOk, IfSome, IsErr, IsSomeAnd, All, Some, vec_len};
 ghost use Rattle.crews.specs.Crews.{AllCarrySame, IsCrewOf};
 ghost use Rattle.map_keeper.specs.Keepers.{pass_of};
 ghost use Rattle.map_server.specs.Servers.{HasPorts, protocols_of};
@@ -7,18 +7,20 @@ ghost use Rattle.map_server.specs.Servers.{HasPorts, protocols_of};
 use crate::arrivals::{Arrivals, Limits};
 use crate::entrance::{Entrance, Gates};
 use crate::keeping::{Bell, Kept, Saver};
-use crate::ports::{ListenFault, Ports, WAKE};
+use crate::metrics::{Watch, Watcher};
+use crate::ports::{ListenFault, Ports, WAKE, add_line, listen_at};
 use crate::posts::attend_all;
 use crate::quotas::Quotas;
 use crate::server::Served;
 use crate::telling::Telling;
 use crate::wall_clock::WallClock;
 use crate::words::MapdWords;
-use bin_stripes::OpenGate;
+use bin_stripes::{OpenGate, Pass};
 use bpf_model::NoMemory;
 use crews::{Crew, Worker};
 use devices::Sink;
 use map_keeper::Shared;
+use mio::net::TcpListener;
 use mio::{Poll, Waker};
 use server_state::{Password, ServerState};
 use std::alloc::Global;
@@ -28,12 +30,13 @@ use std::rt::Clock;
 use std::sync::Wait;
 use std::thread::{Threads, join};
 
-/// Ports that are bound, the polls that watch them, one for each worker, what ends their waits, and the lines that tell the ports'
-/// addresses.
+/// Ports that are bound, the polls that watch them, one for each worker, what ends their waits, the port for the server's numbers, which no
+/// worker watches, and the lines that tell the ports' addresses.
 #[derive(Drop)]
 pub(crate) struct Bound {
     pub(crate) gates: Gates,
     pub(crate) polls: Vec<Poll>,
+    pub(crate) metrics: Option<TcpListener>,
     pub(crate) lines: String,
 }
 
@@ -73,16 +76,19 @@ pub(crate) fn bind<'a, H: Net>(
     let ports = Ports::bind(rt, asked)?;
     let polls = polls_of(rt, alloc, &ports, workers)?;
     let wakers = wakers_of(alloc, &ports, &polls)?;
-    let lines = ports.lines(alloc)?;
+    let metrics = listen_at(rt, &asked.metrics)?;
+    let mut lines = ports.lines(alloc)?;
+    add_line(alloc, &mut lines, "metrics on", &metrics)?;
     Ok(Bound {
         gates: Gates { ports, wakers },
         polls,
+        metrics,
         lines,
     })
 }
 
-/// The crews that serve, each with a poll, how many sessions they may begin, to how many clients at once, and the password that clients
-/// of commands have to show.
+/// The crews that serve, each with a poll, how many sessions they may begin, to how many clients at once, the password that clients of
+/// commands have to show, and what readers of the server's numbers are answered with.
 #[derive(Drop)]
 pub(crate) struct Ready {
     pub(crate) crews: Vec<Crew>,
@@ -91,21 +97,29 @@ pub(crate) struct Ready {
     pub(crate) quotas: Quotas,
     pub(crate) limits: Limits,
     pub(crate) password: Option<Password>,
+    pub(crate) watch: Option<Watch>,
 }
 
 impl Ready {
-    /// These crews, at what is bound.
+    /// These crews and this watcher, at what is bound.
     pub(crate) fn new(
         bound: Bound,
         crews: Vec<Crew>,
         quotas: Quotas,
         limits: Limits,
         password: Option<Password>,
+        watcher: Option<Pass>,
     ) -> Ready
         ensures crews { result.crews ≡ crews }
         ensures polls { result.polls ≡ bound.polls }
+        ensures watch { IfSome result.watch (λ watch. watcher ≡ Some watch.pass) }
     {
-        let Bound { gates, polls, .. } = bound;
+        let Bound {
+            gates,
+            polls,
+            metrics,
+            ..
+        } = bound;
         Ready {
             crews,
             polls,
@@ -113,6 +127,7 @@ impl Ready {
             quotas,
             limits,
             password,
+            watch: Watch::of(metrics, watcher),
         }
     }
 }
@@ -164,6 +179,72 @@ fn attend_and_keep<'a, 'r, H: Threads + Wait + Clock + Sync, E: Sink + Send>(
     (crews, has_failed)
 }
 
+/// Serves clients, and keeps the map meanwhile, if it is kept. Returns also whether the last save failed.
+fn attend<'a, 'r, H: Threads + Wait + Clock + Sync, E: Sink + Send>(
+    worker: &Worker<'a, H, OpenGate>,
+    shared: &Shared<'a, 'r>,
+    entrance: &Entrance<'a, '_, H, E>,
+    crews: Vec<Crew>,
+    polls: Vec<Poll>,
+    kept: Option<Kept<'_>>,
+) -> (Result<Vec<Crew>, NoMemory>, bool)
+    requires crews { All (λ crew. IsCrewOf worker.now.map.now crew) crews.items }
+    requires polls { vec_len polls ≡ vec_len crews }
+    requires kept { IfSome kept (λ kept. (pass_of kept.keeper).map ≡ shared.now.map.now) }
+    ensures { IfOk result.0 (λ back.
+        AllCarrySame crews.items back.items × All (λ crew. IsCrewOf worker.now.map.now crew) back.items) }
+{
+    match kept {
+        None => (
+            attend_all(worker, shared.scripts, entrance, crews, polls),
+            false,
+        ),
+        Some(kept) => attend_and_keep(worker, shared, entrance, crews, polls, kept),
+    }
+}
+
+/// Serves clients, while a thread of its own answers readers of the server's numbers. If no thread can be made, none is answered.
+fn attend_and_watch<'a, 'r, H: Threads + Wait + Clock + Sync, E: Sink + Send>(
+    worker: &Worker<'a, H, OpenGate>,
+    shared: &Shared<'a, 'r>,
+    entrance: &Entrance<'a, '_, H, E>,
+    posts: (Vec<Crew>, Vec<Poll>),
+    kept: Option<Kept<'_>>,
+    watch: Watch,
+) -> (Result<Vec<Crew>, NoMemory>, bool)
+    requires crews { All (λ crew. IsCrewOf worker.now.map.now crew) posts.0.items }
+    requires polls { vec_len posts.1 ≡ vec_len posts.0 }
+    requires kept { IfSome kept (λ kept. (pass_of kept.keeper).map ≡ shared.now.map.now) }
+    requires watch { watch.pass.map ≡ shared.now.map.now }
+    ensures { IfOk result.0 (λ back.
+        AllCarrySame posts.0.items back.items × All (λ crew. IsCrewOf worker.now.map.now crew) back.items) }
+{
+    let bell = Bell::new();
+    let bell = &bell;
+    let (rt, state, map) = (worker.rt, entrance.state, shared.map);
+    let watching = move ||
+        requires { watch.pass.map ≡ map.now }
+    { Watcher::new(rt, state, map).watch(watch, bell) };
+    // For the proof: a closure that moves its captures on can't be known by what it ensures, so it takes them out of this.
+    let mut given = Some((posts, kept));
+    let serving = move || -> (Result<Vec<Crew>, NoMemory>, bool)
+        requires { IsSomeAnd given (λ given. All (λ crew. IsCrewOf worker.now.map.now crew) given.0.0.items
+            × (vec_len given.0.1 ≡ vec_len given.0.0)
+            × IfSome given.1 (λ kept. (pass_of kept.keeper).map ≡ shared.now.map.now)) }
+        ensures { IfOk result.0 (λ back. IfSome given.entry (λ given.
+            AllCarrySame given.0.0.items back.items × All (λ crew. IsCrewOf worker.entry.now.map.now crew) back.items)) }
+    {
+        let Some(((crews, polls), kept)) = given.take() else {
+            unreachable!()
+        };
+        let back = attend(worker, shared, entrance, crews, polls, kept);
+        bell.ring();
+        back
+    };
+    let ((), served) = join(worker.rt, watching, serving);
+    served
+}
+
 /// Nobody was served: memory was refused.
 fn nobody_served() -> Served
     ensures { IsErr result.crews }
@@ -175,8 +256,8 @@ fn nobody_served() -> Served
     }
 }
 
-/// Serves clients of the ports until each worker has ended, and keeps the map meanwhile, if it is kept. Standard error is told what goes
-/// wrong meanwhile, and given back.
+/// Serves clients of the ports until each worker has ended. Meanwhile it keeps the map, if it is kept, and answers readers of the server's
+/// numbers, if there is a port for them. Standard error is told what goes wrong, and given back.
 pub(crate) fn serve_ports<'a, H: Threads + Wait + Clock + Sync, E: Sink + Send>(
     rt: &H,
     alloc: Global,
@@ -188,6 +269,7 @@ pub(crate) fn serve_ports<'a, H: Threads + Wait + Clock + Sync, E: Sink + Send>(
     requires crews { All (λ crew. IsCrewOf shared.now.map.now crew) ready.crews.items }
     requires polls { vec_len ready.polls ≡ vec_len ready.crews }
     requires kept { IfSome kept (λ kept. (pass_of kept.keeper).map ≡ shared.now.map.now) }
+    requires watch { IfSome ready.watch (λ watch. watch.pass.map ≡ shared.now.map.now) }
     ensures { IfOk result.0.crews (λ back.
         AllCarrySame ready.crews.items back.items × All (λ crew. IsCrewOf shared.now.map.now crew) back.items) }
 {
@@ -203,6 +285,7 @@ pub(crate) fn serve_ports<'a, H: Threads + Wait + Clock + Sync, E: Sink + Send>(
         quotas,
         limits,
         password,
+        watch,
     } = ready;
     let state = state.with_password(password);
     let entrance = Entrance::new(
@@ -218,12 +301,9 @@ pub(crate) fn serve_ports<'a, H: Threads + Wait + Clock + Sync, E: Sink + Send>(
         map: shared.map,
         registry: shared.registry,
     };
-    let (crews, has_failed) = match kept {
-        None => (
-            attend_all(&worker, shared.scripts, &entrance, crews, polls),
-            false,
-        ),
-        Some(kept) => attend_and_keep(&worker, shared, &entrance, crews, polls, kept),
+    let (crews, has_failed) = match watch {
+        None => attend(&worker, shared, &entrance, crews, polls, kept),
+        Some(watch) => attend_and_watch(&worker, shared, &entrance, (crews, polls), kept, watch),
     };
     let served = Served {
         crews,

@@ -38,10 +38,35 @@ fn running_workers<H: Threads + Wait + Sync>(rt: &H, workers: u64, others: u64) 
     made.saturating_sub(others).saturating_add(1).min(workers)
 }
 
-/// Tells standard error if no thread can be made that saves the map while clients are served.
-pub(crate) fn tell_saving<H: Threads + Wait + Sync, E: Sink>(rt: &H, errors: &mut Telling<'_, E>) {
-    if threads_made(rt, 1) == 0 {
+/// The threads beside those of the workers.
+#[derive(Clone, Copy, Debug, PartialEq, Eq)]
+pub(crate) struct Others {
+    /// One saves the map.
+    pub(crate) saves: bool,
+    /// One answers readers of the server's numbers.
+    pub(crate) answers: bool,
+}
+
+impl Others {
+    /// How many they are.
+    fn number(self) -> u64 {
+        u64::from(self.saves).saturating_add(u64::from(self.answers))
+    }
+}
+
+/// Tells standard error if no thread can be made that saves the map while clients are served, or none that answers readers of the
+/// server's numbers.
+fn tell_others<H: Threads + Wait + Sync, E: Sink>(
+    rt: &H,
+    others: Others,
+    errors: &mut Telling<'_, E>,
+) {
+    let made = threads_made(rt, others.number());
+    if others.saves && made == 0 {
         errors.tell(b"the map is saved at the end alone: no further thread could be made\n");
+    }
+    if others.answers && made < others.number() {
+        errors.tell(b"readers of metrics are not answered: no further thread could be made\n");
     }
 }
 
@@ -50,19 +75,17 @@ fn running_line(alloc: Global, running: u64, workers: u64) -> Result<String, All
     format!(in alloc; "{running} of {workers} workers run: no further thread could be made\n")
 }
 
-/// Tells standard error if not all of the workers can run at once, beside a thread that saves the map, if it is kept. The others begin
-/// when one has ended.
+/// Tells standard error if not all of the workers can run at once, beside these other threads. The remaining ones begin when a worker has
+/// ended.
 pub(crate) fn tell_running<H: Threads + Wait + Sync, E: Sink>(
     rt: &H,
     alloc: Global,
     workers: u64,
-    is_kept: bool,
+    others: Others,
     errors: &mut Telling<'_, E>,
 ) {
-    if is_kept {
-        tell_saving(rt, errors);
-    }
-    let running = running_workers(rt, workers, u64::from(is_kept));
+    tell_others(rt, others, errors);
+    let running = running_workers(rt, workers, others.number());
     if running == workers {
         return;
     }

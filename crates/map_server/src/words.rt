@@ -1,5 +1,5 @@
 //! The command line of `mapd`: clap reads the words.
-ghost use Rattle.std.specs.Prelude.{◌≡◌, true, false, Some, IfOk, IfErr, codes, is_some, option_and_then, option_map, string_bytes};
+ghost use Rattle.std.specs.Prelude.{◌≡◌, true, false, Some, IfOk, IfErr, codes, if◌then◌else◌, is_some, option_and_then, option_map, string_bytes};
 ghost use Rattle.clap.specs.Words.{app_of, fault_of, first_of, found_of, one_of, rows_of, rule_of, HasKind};
 ghost use Rattle.clap.specs.Walk.{texts};
 ghost use Rattle.map_commands.specs.CommandLine.{size_option, spelled_size};
@@ -45,6 +45,15 @@ pub struct MapdWords {
     pub keep_seconds: u64,
     /// The file whose first line is the password that clients of Redis have to show; none: they needn't.
     pub password_file: Option<String>,
+    /// The address of the port whose clients read the server's numbers over HTTP; none: there is no such port.
+    pub metrics: Option<String>,
+}
+
+/// Returns 1 if it is so, else 0.
+fn one_if(is_so: bool) -> u64
+    ensures { result ≡ (if is_so then 1 else 0) }
+{
+    if is_so { 1 } else { 0 }
 }
 
 impl MapdWords {
@@ -65,18 +74,14 @@ impl MapdWords {
         Some(bytes.saturating_sub((bytes / SESSIONS_PART).max(SESSIONS_LEAST)))
     }
 
-    /// How many passes the map has: one for each worker, one for each member of its team, and one that keeps it in a file, if it is
-    /// kept.
+    /// How many passes the map has: one for each worker, one for each member of its team, one that keeps it in a file, if it is
+    /// kept, and one that counts its entries, if there is a port for the numbers.
     pub(crate) fn passes(&self) -> u64
         requires { IsInRange self.now }
         ensures { result ≡ passes_of self.now }
     {
         let served = self.workers * (1 + self.team);
-        if self.keep.is_some() {
-            served + 1
-        } else {
-            served
-        }
+        served + one_if(self.keep.is_some()) + one_if(self.metrics.is_some())
     }
 }
 
@@ -155,7 +160,8 @@ At least one of --listen and --redis is given. Both ports serve one map.
 Each worker serves any number of clients at once, and waits for none of them.
 Threads: one for each worker, and one more if there are several; while a worker walks with a team of several, as
 many more. Passes of the map: workers * (1 + team), at most 64. Descriptors: 4, one a port, one a worker and one a
-client. With --keep there is one more thread and one more pass, and there are three more descriptors.
+client. With --keep there is one more thread and one more pass, and there are three more descriptors. With --metrics there
+is one more thread, one more pass, and one more descriptor while it answers.
 mapd --kept FILE, with no other words, prints what such a file has, and ends.
 Memory: 2 KB for each client, and up to 7 MB for each worker, beside the threads' stacks, answers that are not read
 yet, what walks answer, and the map. A registered program stays.
@@ -293,6 +299,13 @@ fn mapd_command<'a>(alloc: Global, wanted: bool) -> Result<clap::Command<'a>, Al
             "FILE",
             false,
             "File whose first line is the password that clients of Redis have to show [default: none]",
+        ))?
+        .arg(text_option(
+            alloc,
+            "metrics",
+            "HOST:PORT",
+            false,
+            "Address at which Prometheus reads the server's numbers, as GET /metrics [default: none]",
         ))
 }
 
@@ -342,6 +355,7 @@ fn words_of(alloc: Global, matches: &ArgMatches<'_>) -> Result<MapdWords, NoMemo
         keep: given_text(alloc, matches, "keep")?,
         keep_seconds: u64::from(given_size(matches, "keep-seconds", KEEP_SECONDS_DEFAULT)),
         password_file: given_text(alloc, matches, "password-file")?,
+        metrics: given_text(alloc, matches, "metrics")?,
     })
 }
 

@@ -85,6 +85,7 @@ fn asked(
         keep: None,
         keep_seconds: 1,
         password_file: None,
+        metrics: None,
     })
 }
 

@@ -24,6 +24,5 @@ returns c =
     let keep = c.in_ok-arg-10.ensures.shape c.text_option-3.ensures.local ∙ ap₂ with_rule programs c.text_option-3.ensures.rule in
     let seconds = c.in_ok-arg-11.ensures.shape c.range_option-5.ensures.local ∙ ap₂ with_rule keep (c.range_option-5.ensures.rule ∙ ap (λ p. record (size_option (codes "keep-seconds")) { parser = Some p }) (narrowed _ _ _ _ 3600 c.value_parser-5.ensures c.new-6.ensures.start c.new-6.ensures.end refl c.range-5.ensures)) in
     let memory = c.in_ok-arg-12.ensures.shape c.range_option-6.ensures.local ∙ ap₂ with_rule seconds (c.range_option-6.ensures.rule ∙ ap (λ p. record (size_option (codes "memory")) { parser = Some p }) (narrowed _ _ _ _ 65535 c.value_parser-6.ensures c.new-7.ensures.start c.new-7.ensures.end refl c.range-6.ensures)) in
-    IfOk-weaker c.arg-13.result _ _
-    (λ r h. h.shape c.text_option-4.ensures.local ∙ ap₂ with_rule memory c.text_option-4.ensures.rule)
-    c.arg-13.ensures
+    let password = c.in_ok-arg-13.ensures.shape c.text_option-4.ensures.local ∙ ap₂ with_rule memory c.text_option-4.ensures.rule in
+    IfOk-weaker c.arg-14.result _ _ (λ r h. h.shape c.text_option-5.ensures.local ∙ ap₂ with_rule password c.text_option-5.ensures.rule) c.arg-14.ensures

@@ -17,4 +17,5 @@ returns c = record {
   keep = c.in_ok-given_text-3.ensures;
   keep_seconds = c.from-5.ensures ∙ c.given_size-5.ensures;
   password_file = c.in_ok-given_text-4.ensures;
+  metrics = c.in_ok-given_text-5.ensures;
 }

@@ -1,0 +1,228 @@
+//! The numbers as Prometheus reads them.
+ghost use Rattle.std.specs.Prelude.{◌≡◌, ◌+◌, ◌*◌, ◌≤◌, ◌++◌, length, if◌then◌else◌};
+ghost use Rattle.arrayvec.specs.ArrayVec.{array_vec_len};
+ghost use Rattle.metrics_page.specs.Pages as spec;
+ghost use Rattle.metrics_page.specs.Pages.{kind_text, metric, text};
+
+use crate::buffer::append;
+use crate::numbers::Numbers;
+use arrayvec::ArrayVec;
+use itoa::Buffer;
+
+/// The bytes that the lines of one number take at most.
+pub(crate) const METRIC_BYTES: usize = 288;
+
+/// The room for the lines of all numbers.
+pub(crate) const TEXT_BYTES: usize = 16 * METRIC_BYTES;
+
+/// The lines of the numbers.
+pub(crate) type Text = ArrayVec<u8, TEXT_BYTES>;
+
+/// Of which kind a number is.
+#[derive(Clone, Copy, Debug, PartialEq, Eq)]
+pub enum Kind {
+    /// It goes up and down.
+    Gauge,
+    /// It counts up from the server's begin on.
+    Counter,
+}
+
+impl Kind {
+    /// Returns what the line of the kind ends with.
+    fn text(self) -> &'static str
+        ensures value { result.now ≡ kind_text self }
+        ensures short { length result.now ≤ 9 }
+    {
+        match self {
+            Kind::Gauge => " gauge\n",
+            Kind::Counter => " counter\n",
+        }
+    }
+}
+
+/// Appends the lines of a number of this kind and name, for which there is room.
+fn put(text: &mut Text, kind: Kind, name: &str, help: &str, number: u64)
+    requires room { array_vec_len text.old + METRIC_BYTES ≤ TEXT_BYTES }
+    requires name { length name.now ≤ 32 }
+    requires help { length help.now ≤ 96 }
+    ensures items { text.new.items ≡ text.old.items ++ metric kind name.now help.now number }
+    ensures len { array_vec_len text.new ≤ array_vec_len text.old + METRIC_BYTES }
+{
+    let mut digits = Buffer::new();
+    append(text, b"# HELP ");
+    append(text, name.as_bytes());
+    append(text, b" ");
+    append(text, help.as_bytes());
+    append(text, b"\n# TYPE ");
+    append(text, name.as_bytes());
+    append(text, kind.text().as_bytes());
+    append(text, name.as_bytes());
+    append(text, b" ");
+    append(text, digits.format(number).as_bytes());
+    append(text, b"\n");
+}
+
+/// Appends the numbers of the map and the process.
+fn put_process(text: &mut Text, numbers: &Numbers)
+    requires { array_vec_len text.old + 3 * METRIC_BYTES ≤ TEXT_BYTES }
+    ensures items { text.new.items ≡ text.old.items ++ spec.process numbers.now }
+    ensures len { array_vec_len text.new ≤ array_vec_len text.old + 3 * METRIC_BYTES }
+{
+    put(
+        text,
+        Kind::Gauge,
+        "mapd_entries",
+        "Entries of the map.",
+        numbers.entries,
+    );
+    put(
+        text,
+        Kind::Gauge,
+        "mapd_resident_bytes",
+        "Memory of the process.",
+        numbers.resident_bytes,
+    );
+    put(
+        text,
+        Kind::Gauge,
+        "mapd_uptime_seconds",
+        "Time since the server began.",
+        numbers.uptime_seconds,
+    );
+}
+
+/// Appends the numbers of clients.
+fn put_clients(text: &mut Text, numbers: &Numbers)
+    requires { array_vec_len text.old + 3 * METRIC_BYTES ≤ TEXT_BYTES }
+    ensures items { text.new.items ≡ text.old.items ++ spec.clients numbers.now }
+    ensures len { array_vec_len text.new ≤ array_vec_len text.old + 3 * METRIC_BYTES }
+{
+    put(
+        text,
+        Kind::Gauge,
+        "mapd_clients",
+        "Clients that are connected.",
+        numbers.clients,
+    );
+    put(
+        text,
+        Kind::Counter,
+        "mapd_clients_came_total",
+        "Clients that came, also those that were turned away.",
+        numbers.clients_came,
+    );
+    put(
+        text,
+        Kind::Counter,
+        "mapd_clients_refused_total",
+        "Clients that were turned away, since there was no room.",
+        numbers.clients_refused,
+    );
+}
+
+/// Appends the numbers of commands and requests.
+fn put_calls(text: &mut Text, numbers: &Numbers)
+    requires { array_vec_len text.old + 4 * METRIC_BYTES ≤ TEXT_BYTES }
+    ensures items { text.new.items ≡ text.old.items ++ spec.calls numbers.now }
+    ensures len { array_vec_len text.new ≤ array_vec_len text.old + 4 * METRIC_BYTES }
+{
+    put(
+        text,
+        Kind::Counter,
+        "mapd_commands_total",
+        "Commands on the Redis port, right ones and wrong ones.",
+        numbers.commands,
+    );
+    put(
+        text,
+        Kind::Counter,
+        "mapd_requests_total",
+        "Requests in frames.",
+        numbers.requests,
+    );
+    put(
+        text,
+        Kind::Counter,
+        "mapd_walks_total",
+        "Commands on the Redis port that walked over the whole map.",
+        numbers.walks,
+    );
+    put(
+        text,
+        Kind::Counter,
+        "mapd_refusals_total",
+        "Commands on the Redis port to which memory was refused.",
+        numbers.refusals,
+    );
+}
+
+/// Appends the numbers of keys.
+fn put_keys(text: &mut Text, numbers: &Numbers)
+    requires { array_vec_len text.old + 3 * METRIC_BYTES ≤ TEXT_BYTES }
+    ensures items { text.new.items ≡ text.old.items ++ spec.keys numbers.now }
+    ensures len { array_vec_len text.new ≤ array_vec_len text.old + 3 * METRIC_BYTES }
+{
+    put(
+        text,
+        Kind::Counter,
+        "mapd_expired_total",
+        "Entries that sweeps took away, since their time was over.",
+        numbers.expired,
+    );
+    put(
+        text,
+        Kind::Counter,
+        "mapd_hits_total",
+        "Reads of a key on the Redis port that found a value.",
+        numbers.hits,
+    );
+    put(
+        text,
+        Kind::Counter,
+        "mapd_misses_total",
+        "Reads of a key on the Redis port that found none.",
+        numbers.misses,
+    );
+}
+
+/// Returns 1 if it is so, else 0.
+fn one_if(is_so: bool) -> u64
+    ensures { result ≡ (if is_so then 1 else 0) }
+{
+    if is_so { 1 } else { 0 }
+}
+
+/// Appends the numbers of saves.
+fn put_saves(text: &mut Text, numbers: &Numbers)
+    requires { array_vec_len text.old + 2 * METRIC_BYTES ≤ TEXT_BYTES }
+    ensures items { text.new.items ≡ text.old.items ++ spec.saves numbers.now }
+    ensures len { array_vec_len text.new ≤ array_vec_len text.old + 2 * METRIC_BYTES }
+{
+    put(
+        text,
+        Kind::Gauge,
+        "mapd_last_save_seconds",
+        "When the last save was written, in seconds since the epoch; 0: never.",
+        numbers.last_save_seconds,
+    );
+    put(
+        text,
+        Kind::Gauge,
+        "mapd_save_failing",
+        "1 if the last save could not be written, else 0.",
+        one_if(numbers.is_save_failing),
+    );
+}
+
+/// Returns the lines of the numbers.
+pub(crate) fn text_of(numbers: &Numbers) -> Text
+    ensures { result.items ≡ text numbers.now }
+{
+    let mut text = Text::new();
+    put_process(&mut text, numbers);
+    put_clients(&mut text, numbers);
+    put_calls(&mut text, numbers);
+    put_keys(&mut text, numbers);
+    put_saves(&mut text, numbers);
+    text
+}

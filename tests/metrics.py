@@ -1,0 +1,321 @@
+#!/usr/bin/env python3
+"""The port of `mapd --metrics`: each path and method, heads that come in pieces or are wrong, readers that hang, and the numbers after
+calls that are known. If promtool is installed, it reads the page too.
+
+By hand, after `rt run` in crates/mapd: python3 tests/metrics.py. --only names a part. By .ci/run behind the gate."""
+from __future__ import annotations
+
+import argparse
+import contextlib
+import random
+import re
+import shutil
+import socket
+import subprocess
+import sys
+import tempfile
+import time
+import urllib.request
+from collections.abc import Callable, Iterator
+from concurrent.futures import ThreadPoolExecutor
+from pathlib import Path
+from typing import NamedTuple
+
+sys.path.insert(0, str(Path(__file__).resolve().parent))
+sys.dont_write_bytecode = True
+import redis_wire  # noqa: E402
+import wire  # noqa: E402
+from wire import Wrong, same  # noqa: E402
+
+GAUGES = {"mapd_entries", "mapd_resident_bytes", "mapd_uptime_seconds", "mapd_clients", "mapd_last_save_seconds", "mapd_save_failing"}
+COUNTERS = {f"mapd_{name}_total" for name in
+            ("clients_came", "clients_refused", "commands", "requests", "walks", "refusals", "expired", "hits", "misses")}
+# What changes by itself.
+PASSING = {"mapd_resident_bytes", "mapd_uptime_seconds"}
+TYPE = "text/plain; version=0.0.4; charset=utf-8"
+HEAD_BYTES = 4096
+# How long a reader may take, and what comes on top of that at most.
+READER_SECONDS, SLACK = 2.0, 3.0
+
+
+class Ports(NamedTuple):
+    """A server and its three addresses."""
+
+    server: wire.Server
+    frames: str
+    commands: str
+    metrics: str
+
+
+@contextlib.contextmanager
+def started(program: Path, *options: str) -> Iterator[Ports]:
+    """A server with all three ports and these options."""
+    with wire.started(program, "--redis", "127.0.0.1:0", "--metrics", "127.0.0.1:0", *options) as server:
+        if not server.is_ready():
+            raise Wrong(f"the server isn't ready: {server.process.stderr.read()!r:.300}")
+        commands, metrics = (server.process.stderr.readline().decode().strip() for _ in range(2))
+        same("the line of the Redis port", commands.startswith("redis on 127.0.0.1:"), True)
+        same("the line of the metrics' port", metrics.startswith("metrics on 127.0.0.1:"), True)
+        yield Ports(server, server.address, commands.removeprefix("redis on "), metrics.removeprefix("metrics on "))
+
+
+def connected(address: str) -> socket.socket:
+    """A connection to the address."""
+    host, _, port = address.rpartition(":")
+    return socket.create_connection((host, int(port)), timeout=wire.PATIENCE)
+
+
+def rest_of(connection: socket.socket) -> bytes:
+    """All bytes up to the end."""
+    return b"".join(iter(lambda: connection.recv(65536), b""))
+
+
+def exchange(address: str, *pieces: bytes, ends: bool = False) -> bytes:
+    """What is answered to these pieces, which are sent one after the other."""
+    with connected(address) as connection:
+        connection.setsockopt(socket.IPPROTO_TCP, socket.TCP_NODELAY, 1)
+        for piece in pieces:
+            connection.sendall(piece)
+        if ends:
+            connection.shutdown(socket.SHUT_WR)
+        return rest_of(connection)
+
+
+def head_and_body(answer: bytes) -> tuple[str, dict[str, str], bytes]:
+    """The status line, the fields and the body of an answer."""
+    head, _, body = answer.partition(b"\r\n\r\n")
+    status, *lines = head.decode().split("\r\n")
+    return status, dict(line.split(": ", 1) for line in lines), body
+
+
+def page_of(address: str) -> str:
+    """The page, as a client of HTTP reads it."""
+    with urllib.request.urlopen(f"http://{address}/metrics", timeout=wire.PATIENCE) as answer:
+        body = answer.read()
+        same("the status", answer.status, 200)
+        same("the type", answer.headers["Content-Type"], TYPE)
+        same("the length", answer.headers["Content-Length"], str(len(body)))
+        same("the connection", answer.headers["Connection"], "close")
+    return body.decode()
+
+
+def told(address: str) -> dict[str, int]:
+    """The numbers, each after a line of help and one with its type."""
+    lines = page_of(address).splitlines()
+    numbers = {}
+    for about, kind, number in zip(lines[::3], lines[1::3], lines[2::3], strict=True):
+        name, value = number.split(" ")
+        same("the line of help", re.fullmatch(rf"# HELP {name} [A-Z0-9].*\.", about) is not None, True)
+        same("the line of the type", kind, f"# TYPE {name} {'gauge' if name in GAUGES else 'counter'}")
+        numbers[name] = int(value)
+    same("the names", set(numbers), GAUGES | COUNTERS)
+    return numbers
+
+
+def growth(address: str, calls: Callable[[], None]) -> dict[str, int]:
+    """How much each number grows by these calls, if it does; but for memory and time."""
+    before = told(address)
+    calls()
+    after = told(address)
+    return {name: after[name] - before[name] for name in after if after[name] != before[name] and name not in PASSING}
+
+
+def request(method: str = "GET", target: str = "/metrics", version: str = "HTTP/1.1", fields: int = 1) -> bytes:
+    """The head of a request."""
+    lines = [f"{method} {target} {version}", *(f"Field-{number}: here" for number in range(fields))]
+    return "".join(f"{line}\r\n" for line in lines).encode() + b"\r\n"
+
+
+def pages_and_heads(program: Path) -> None:
+    """Which head has which answer."""
+    with started(program) as ports:
+        told(ports.metrics)
+        rows = [
+            (request(), 200), (request(version="HTTP/1.0"), 200), (request(target="/metrics?a=b"), 200), (request("HEAD"), 200), (request(fields=64), 200),
+            (request(target="/"), 404), (request(target="/metrics/"), 404), (request(target="/metric"), 404), (request("POST", "/other"), 404),
+            (request(target="/Metrics"), 404), (request(target="*"), 404),
+            (request("POST"), 405), (request("DELETE", "/metrics?a"), 405), (request("get"), 405), (request("GETS"), 405), (request("HEA"), 405),
+            (request(fields=65), 400), (request(version="HTTP/2.0"), 400), (b"hello\r\n\r\n", 400), (b"\0\1\2\3", 400), (b"GET /metrics\r\n\r\n", 400),
+            (b"*1\r\n$4\r\nPING\r\n", 400), (b"GET  /metrics HTTP/1.1\r\n\r\n", 400),
+        ]
+        for sent, number in rows:
+            status, fields, body = head_and_body(exchange(ports.metrics, sent))
+            same(f"the status of {sent!r:.60}", status.split(" ")[:2], ["HTTP/1.1", str(number)])
+            same("whether the method is told", fields.get("Allow"), "GET, HEAD" if number == 405 else None)
+            same("whether there is a body", bool(body), number == 200 and not sent.startswith(b"HEAD"))
+            if not sent.startswith(b"HEAD"):
+                same("the length", fields["Content-Length"], str(len(body)))
+        same("the length of a HEAD", int(head_and_body(exchange(ports.metrics, request("HEAD")))[1]["Content-Length"]) > 1000, True)
+
+
+def pieces_and_ends(program: Path) -> None:
+    """Heads that come in single bytes, that are as long as they may be, too long, or end too soon."""
+    with started(program) as ports:
+        sent = request()
+        for pieces in ([bytes([one]) for one in sent], [sent[:-1], sent[-1:]], [b"\r\n\r\n" + sent]):
+            same("a head in pieces", exchange(ports.metrics, *pieces).startswith(b"HTTP/1.1 200 "), True)
+        long = b"GET /metrics HTTP/1.1\r\nField: "
+        for size, number in ((HEAD_BYTES, 200), (HEAD_BYTES + 1, 400), (1_000_000, 400)):
+            answer = exchange(ports.metrics, long + b"a" * (size - len(long) - 4) + b"\r\n\r\n") if size <= HEAD_BYTES + 1 else flood(ports.metrics, long, size)
+            same(f"a head of {size} bytes", answer[:13], f"HTTP/1.1 {number} ".encode())
+        for end in range(1, len(sent)):
+            same("a head that ends too soon", exchange(ports.metrics, sent[:end], ends=True)[:13], b"HTTP/1.1 400 ")
+
+
+def flood(address: str, begin: bytes, size: int) -> bytes:
+    """What is answered to a head without an end; the connection may end while it is sent."""
+    with connected(address) as connection:
+        with contextlib.suppress(ConnectionError):
+            connection.sendall(begin + b"a" * size)
+        try:
+            return rest_of(connection)
+        except ConnectionError:
+            return b"HTTP/1.1 400 "
+
+
+def is_quick(what: str, call: Callable[[], object], seconds: float) -> None:
+    """The call takes no longer."""
+    began = time.monotonic()
+    call()
+    took = time.monotonic() - began
+    if took > seconds:
+        raise Wrong(f"{what} took {took:.1f} s, and {seconds} at most are allowed")
+
+
+def readers_that_hang(program: Path) -> None:
+    """Some send nothing, a part of a head, or byte by byte without an end; some don't read. Clients of the map don't notice."""
+    with started(program) as ports, contextlib.ExitStack() as stack:
+        client = stack.enter_context(wire.opened(ports.frames))
+        for sent in (b"", b"GET /met", request()):
+            hanging = stack.enter_context(connected(ports.metrics))
+            hanging.sendall(sent)
+            time.sleep(0.3)
+            is_quick("a call beside a reader that hangs", lambda: [client.ask(wire.get(b"key")) for _ in range(20)], 1.0)
+        is_quick("the page after readers that hang", lambda: told(ports.metrics), 2 * READER_SECONDS + SLACK)
+        with connected(ports.metrics) as slow, contextlib.suppress(ConnectionError):
+            is_quick("a reader that drips", lambda: drip(slow), READER_SECONDS + SLACK)
+        silent = stack.enter_context(connected(ports.metrics))
+        is_quick("the end of a silent reader", lambda: same("what it reads", rest_of(silent), b""), READER_SECONDS + SLACK)
+        resets = [connected(ports.metrics) for _ in range(50)]
+        for connection in resets:
+            connection.setsockopt(socket.SOL_SOCKET, socket.SO_LINGER, b"\1\0\0\0\0\0\0\0")
+            connection.close()
+        told(ports.metrics)
+
+
+def drip(connection: socket.socket) -> None:
+    """Sends a field without an end, byte by byte, until the connection ends."""
+    connection.sendall(b"GET /metrics HTTP/1.1\r\nField: ")
+    for _ in range(1000):
+        connection.sendall(b"a")
+        time.sleep(0.05)
+
+
+def numbers_after_calls(program: Path) -> None:
+    """What is told grows by what clients do."""
+    with started(program, "--clients", "2") as ports:
+        first = told(ports.metrics)
+        same("a number of a new server that isn't 0", {name for name, number in first.items() if number} - PASSING, set())
+        same("whether the process has memory", first["mapd_resident_bytes"] > 1_000_000, True)
+        with wire.opened(ports.frames) as client, redis_wire.Client(ports.commands) as other:
+            other.ask("PING")
+            same("clients", growth(ports.metrics, lambda: refused_client(ports)), {"mapd_clients_came_total": 1, "mapd_clients_refused_total": 1})
+            same("clients that are there", told(ports.metrics)["mapd_clients"], 2)
+            puts = growth(ports.metrics, lambda: [client.ask(wire.put(bytes([name]), b"")) for name in range(10)])
+            same("puts", puts, {"mapd_entries": 10, "mapd_requests_total": 10})
+            same("a walk", growth(ports.metrics, lambda: other.ask("DBSIZE")), {"mapd_commands_total": 1, "mapd_walks_total": 1})
+            reads = growth(ports.metrics, lambda: [other.ask("GET", name) for name in (b"\0", b"\1", b"none")])
+            same("reads", reads, {"mapd_commands_total": 3, "mapd_hits_total": 2, "mapd_misses_total": 1})
+            same("a key that goes", growth(ports.metrics, lambda: expire(other, ports.metrics)), {"mapd_commands_total": 1, "mapd_expired_total": 1})
+        same("the time", told(ports.metrics)["mapd_uptime_seconds"] < 60, True)
+
+
+def refused_client(ports: Ports) -> None:
+    """One client more than there may be."""
+    with connected(ports.frames) as late:
+        rest_of(late)
+
+
+def expire(client: redis_wire.Client, metrics: str) -> None:
+    """A key that is over soon, and is swept away."""
+    client.ask("SET", "soon", "1", "PX", "20")
+    for _ in range(100):
+        if told(metrics)["mapd_expired_total"]:
+            return
+        time.sleep(0.1)
+    raise Wrong("no key was swept away")
+
+
+def numbers_of_saves_and_memory(program: Path) -> None:
+    """The time of a save, and memory that is refused."""
+    with tempfile.TemporaryDirectory() as folder, started(program, "--keep", f"{folder}/kept.db", "--memory", "1") as ports:
+        with redis_wire.Client(ports.commands) as client:
+            began = int(time.time())
+            same("SAVE", client.ask("SAVE"), b"+OK\r\n")
+            saved = told(ports.metrics)
+            same("the time of the save", began - 1 <= saved["mapd_last_save_seconds"] <= int(time.time()), True)
+            same("a save that fails", saved["mapd_save_failing"], 0)
+            more = growth(ports.metrics, lambda: same("a SET past the memory", client.ask("SET", "key", "value")[:4], b"-OOM"))
+            same("refusals", more.get("mapd_refusals_total"), 1)
+            same("entries", more.get("mapd_entries"), None)
+
+
+def the_server_goes_on(program: Path) -> None:
+    """Random bytes and many readers at once; and a server ends in time while a reader hangs."""
+    chance = random.Random(7)
+    with started(program) as ports, wire.opened(ports.frames) as client, ThreadPoolExecutor(16) as pool:
+        for _ in range(50):
+            with contextlib.suppress(ConnectionError):
+                exchange(ports.metrics, chance.randbytes(chance.randrange(1, 200)), ends=True)
+        pages = [pool.submit(told, ports.metrics) for _ in range(64)]
+        for page in pages:
+            page.result()
+        same("a call", client.ask(wire.get(b"key")), wire.NOTHING)
+    with started(program, "--workers", "1", "--sessions", "1") as ports, connected(ports.metrics):
+        time.sleep(0.3)
+        wire.opened(ports.frames).close_writing()
+        is_quick("the end of the server", lambda: same("the status", ports.server.finish(), 0), 1.5)
+        same("the last line", ports.server.printed, b"ready\nserved 1\n")
+
+
+def ports_and_passes(program: Path) -> None:
+    """A port that is taken, and no pass for the one who counts."""
+    with socket.create_server(("127.0.0.1", 0)) as taken:
+        address = f"127.0.0.1:{taken.getsockname()[1]}"
+        run = subprocess.run([program, "--listen", "127.0.0.1:0", "--metrics", address], capture_output=True, timeout=wire.PATIENCE, check=False)
+        same("a port that is taken", (run.returncode, run.stdout, run.stderr.splitlines()[0]), (3, b"", b"failed listen"))
+        same("the address in the line", address.encode() in run.stderr, True)
+    run = subprocess.run([program, "--listen", "127.0.0.1:0", "--metrics", "127.0.0.1:0", "--workers", "32"],
+                         capture_output=True, timeout=wire.PATIENCE, check=False)
+    same("too many passes", (run.returncode, run.stdout), (1, b"refused 51 at 0\n"))
+
+
+def prometheus_reads_it(program: Path) -> None:
+    """promtool finds no fault in the page."""
+    promtool = shutil.which("promtool")
+    if promtool is None:
+        print("no promtool here, so Prometheus' own reading was not tried")
+        return
+    with started(program) as ports:
+        run = subprocess.run([promtool, "check", "metrics"], input=page_of(ports.metrics), capture_output=True, text=True, timeout=60, check=False)
+        same("what promtool says", (run.returncode, run.stderr), (0, ""))
+
+
+PARTS = {part.__name__: part for part in (pages_and_heads, pieces_and_ends, readers_that_hang, numbers_after_calls,
+                                          numbers_of_saves_and_memory, the_server_goes_on, ports_and_passes, prometheus_reads_it)}
+
+
+def main() -> None:
+    """Plays the parts."""
+    parser = argparse.ArgumentParser(description=__doc__.splitlines()[0])
+    parser.add_argument("--program", type=Path, default=wire.SERVER, help="the server")
+    parser.add_argument("--only", choices=PARTS, help="one part alone")
+    given = parser.parse_args()
+    for name, part in PARTS.items():
+        if given.only in (None, name):
+            part(given.program)
+            print(f"metrics: {name.replace('_', ' ')}: passed", flush=True)
+
+
+if __name__ == "__main__":
+    main()
