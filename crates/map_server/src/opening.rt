@@ -6,6 +6,7 @@ ghost use Rattle.bin_stripes.specs.Passes.{stripes_of};
 ghost use Rattle.map_server.specs.Servers.{AreAsked, IsAsked, passes_of};
 ghost use Rattle.map_server.specs.ServerRuns.{CanOpen, IsNotOpened};
 ghost use Rattle.map_server.specs.ServerWords.{IsInRange};
+ghost use Rattle.map_server.specs.declared.words.MapdWords.{MapdWords};
 
 use crate::arrivals::Limits;
 use crate::quotas::Quotas;
@@ -17,6 +18,7 @@ use bpf_model::NoMemory;
 use bulk_walks::Team;
 use crews::Crew;
 use program_registry::Registry;
+use server_state::Password;
 use std::alloc::Global;
 
 /// The next worker's crew: the last of the passes is its own, and those before it are its team's.
@@ -130,6 +132,18 @@ fn server_of(
         password: None,
         watcher,
     })
+}
+
+impl Server {
+    /// The same server, whose clients of commands have to show this password, if there is one.
+    pub(crate) fn locked_by(self, password: Option<Password>) -> Server
+        ensures password { result.password ≡ password }
+        ensures asked { (asked : MapdWords) → IsAsked asked self → IsAsked asked result }
+    {
+        let mut server = self;
+        server.password = password;
+        server
+    }
 }
 
 /// An empty map that hashes keys by this seed, no program, and the crews that are asked for.

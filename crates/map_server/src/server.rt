@@ -2,8 +2,6 @@
 ghost use Rattle.std.specs.Prelude.{◌≡◌, All};
 ghost use Rattle.std.specs.Option.{ForSome};
 ghost use Rattle.crews.specs.Crews.{IsCrewOf};
-ghost use Rattle.map_server.specs.declared.words.MapdWords.{MapdWords};
-ghost use Rattle.map_server.specs.Servers.{IsAsked};
 
 use crate::arrivals::Limits;
 use crate::quotas::Quotas;
@@ -42,18 +40,6 @@ pub struct Server {
     ghost serve: { All (λ crew. IsCrewOf map crew) crews.items },
     ghost keeps: { ForSome keeper (λ pass. pass.map ≡ map) },
     ghost watches: { ForSome watcher (λ pass. pass.map ≡ map) },
-}
-
-impl Server {
-    /// The same server, whose clients of commands have to show this password, if there is one.
-    pub(crate) fn locked_by(self, password: Option<Password>) -> Server
-        ensures password { result.password ≡ password }
-        ensures asked { (asked : MapdWords) → IsAsked asked self → IsAsked asked result }
-    {
-        let mut server = self;
-        server.password = password;
-        server
-    }
 }
 
 /// How serving ended.

@@ -1,4 +1,4 @@
-use Rattle.std.proofs.Common.{◌≤◌, ℕ, subst, vec_len}
+use Rattle.std.proofs.Common.{◌≡◌, ◌≤◌, ℕ, Ok, Err, subst, vec_len}
 use Rattle.bin_stripes.specs.Opened.{IsPassCount}
 use Rattle.map_commands.specs.Executions.{IsBadCount}
 use Rattle.map_server.proofs.ServerRunLemmas.{enough_passes}
@@ -11,7 +11,10 @@ server_of-requires-clause-passes c =
 pub server_of-requires-clause-stripes : goal.server_of-requires-clause-stripes
 server_of-requires-clause-stripes c = c.in_ok-map.ensures.ok.stripes_are
 
+no_error : {T E : Type 0} (x : T) (e : E) → Ok x ≡ Err e → ⊥
+no_error x e is = cc
+
 pub returns-clause-ok : goal.returns-clause-ok
 returns-clause-ok c =
-    let good : IsBadCount c.args.asked.now.stripes → ⊥ = λ bad. c.in_ok-map.ensures.bad_stripes.1 bad in
-    (good, λ bad. good (λ count. c.in_ok-map.ensures.bad_passes.1 (count, λ passes. bad (subst IsPassCount c.passes.ensures passes))))
+    let good : IsBadCount c.args.asked.now.stripes → ⊥ = λ bad. no_error _ _ (c.in_ok-map.ensures.bad_stripes.1 bad) in
+    (good, λ bad. good (λ count. no_error _ _ (c.in_ok-map.ensures.bad_passes.1 (count, λ passes. bad (subst IsPassCount c.passes.ensures passes)))))
