@@ -98,8 +98,10 @@ class Known:
             client.ask(b"\x13" + wire.key_field(load.PROBE))
         with resp.Client(server.redis) as client:
             names = list(self.scripts)
-            replies = resp.members_of(client.ask("SCRIPT", "EXISTS", *names)) if names else []
-            same("scripts that are known", replies, [resp.integer(1)] * len(names))
+            for begin in range(0, len(names), 1000):
+                some = names[begin:begin + 1000]
+                replies = resp.members_of(client.ask("SCRIPT", "EXISTS", *some))
+                same("scripts that are known", replies, [resp.integer(1)] * len(some))
             for name in names[-3:]:
                 client.ask("DEL", load.PROBE)
                 same("a script's reply", client.ask("EVALSHA", name, 1, load.PROBE, 1), resp.integer(1))
