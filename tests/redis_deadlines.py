@@ -112,7 +112,8 @@ class Contender:
             self.client.socket.close()
             self.client = Client(self.address)
             return
-        time.sleep(self.dice.random() * LEASE / 1000 * (1.5 if way < 0.5 else 0.5))
+        # it is too late, or in time
+        time.sleep((1.1 if way < 0.5 else 0.5 * self.dice.random()) * LEASE / 1000)
         if way > 0.8:
             asked = milliseconds()
             if self.client.ask("EVALSHA", times.REACQUIRE_NAME, 1, "lock", token, LEASE) == YES:
@@ -135,7 +136,7 @@ def lock_has_one_holder(program: Path) -> None:
     for (_, until), (since, _) in zip(holds, holds[1:]):
         same("nobody takes a lock that another holds", since >= until, True)
     crashes, losses = (sum(getattr(one, name) for one in contenders) for name in ("crashes", "losses"))
-    same("some crash, some are too late, and others get the lock after them", (crashes > 5, losses > 2, len(holds) > 4 * crashes / 2),
+    same("some crash, some are too late, and others get the lock after them", (crashes > 2, losses > 1, len(holds) > 3 * crashes / 2),
          (True, True, True))
     print(f"redis_deadlines: the lock was held {len(holds)} times; {crashes} of its holders crashed, and {losses} were too late")
 
