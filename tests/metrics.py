@@ -5,7 +5,6 @@ calls that are known. If promtool is installed, it reads the page too.
 By hand, after `rt run` in crates/mapd: python3 tests/metrics.py. --only names a part. By .ci/run behind the gate."""
 from __future__ import annotations
 
-import argparse
 import contextlib
 import random
 import re
@@ -301,21 +300,9 @@ def prometheus_reads_it(program: Path) -> None:
         same("what promtool says", (run.returncode, run.stderr), (0, ""))
 
 
-PARTS = {part.__name__: part for part in (pages_and_heads, pieces_and_ends, readers_that_hang, numbers_after_calls,
-                                          numbers_of_saves_and_memory, the_server_goes_on, ports_and_passes, prometheus_reads_it)}
-
-
-def main() -> None:
-    """Plays the parts."""
-    parser = argparse.ArgumentParser(description=__doc__.splitlines()[0])
-    parser.add_argument("--program", type=Path, default=wire.SERVER, help="the server")
-    parser.add_argument("--only", choices=PARTS, help="one part alone")
-    given = parser.parse_args()
-    for name, part in PARTS.items():
-        if given.only in (None, name):
-            part(given.program)
-            print(f"metrics: {name.replace('_', ' ')}: passed", flush=True)
+PARTS = [pages_and_heads, pieces_and_ends, readers_that_hang, numbers_after_calls, numbers_of_saves_and_memory, the_server_goes_on,
+         ports_and_passes, prometheus_reads_it]
 
 
 if __name__ == "__main__":
-    main()
+    wire.play_parts("metrics", __doc__.splitlines()[0], PARTS)

@@ -1,6 +1,7 @@
 """Frames by docs/PROTOCOL.md, and what the tests of the server share: a client on a socket, and a server that is started and ended."""
 from __future__ import annotations
 
+import argparse
 import contextlib
 import os
 import resource
@@ -304,6 +305,19 @@ def started(program: Path, *options: str) -> Iterator[Server]:
     finally:
         server.process.kill()
         server.process.communicate()
+
+
+def play_parts(name: str, about: str, parts: list[Callable[[Path], None]]) -> None:
+    """Plays the parts of this script to the server that --program names, or the one that --only names."""
+    by_name = {part.__name__: part for part in parts}
+    parser = argparse.ArgumentParser(description=about)
+    parser.add_argument("--program", type=Path, default=SERVER, help="the server")
+    parser.add_argument("--only", choices=by_name, help="one part alone")
+    given = parser.parse_args()
+    for title, part in by_name.items():
+        if given.only in (None, title):
+            part(given.program)
+            print(f"{name}: {title.replace('_', ' ')}: passed", flush=True)
 
 
 class Failed(Exception):

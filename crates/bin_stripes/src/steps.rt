@@ -57,7 +57,31 @@ pub(crate) fn try_take_stripe<B: NotedBins + Drop>(
 }
 
 /// Takes the stripe. Waits until it is free, and until its turn has come.
+#[inline(always)]
 pub(crate) fn take_stripe<B: NotedBins + Drop, R: Wait>(
+    rt: &R,
+    table: &Stripes<B>,
+    seat: &mut PassSeat<B>,
+    stripe: usize,
+    turns: &Turns,
+)
+    requires table { IsLaid table.now.table_id table.now.key × (seat.old.table_id ≡ table.now.table_id) }
+    requires stripe { stripe < table.now.table_id.slots }
+    requires pass { Carries seat.old.me.0 (least seat.old.me.0.numbers) × (held_at seat.old.me.0 stripe ≡ false) }
+    ensures same { (seat.new.table_id ≡ seat.old.table_id) × (seat.new.id ≡ seat.old.id) }
+    ensures took { Takes (does table.now.table_id.slots) empty B.table (keeps B.table B.noted) stripe seat.old.me
+        seat.new.me }
+{
+    if turns.are_free(stripe) && try_take_stripe(table, seat, stripe) {
+        return;
+    }
+    wait_for_stripe(rt, table, seat, stripe, turns);
+}
+
+/// Takes the stripe as `take_stripe` does. It is separate so that calls on free stripes know nothing of waiting.
+#[cold]
+#[inline(never)]
+fn wait_for_stripe<B: NotedBins + Drop, R: Wait>(
     rt: &R,
     table: &Stripes<B>,
     seat: &mut PassSeat<B>,

@@ -2,19 +2,20 @@
 //! for a millisecond, it starves: while somebody starves at a stripe, nobody else takes it. Go's `sync.Mutex` does the same, but keeps those
 //! who starve in order. No contract speaks of this: a stripe belongs to the pass that changed its word.
 
+use atomic_methods::MAX_STRIPES;
 use std::sync::Wait;
 use std::sync::atomic::{AtomicU64, Ordering};
 use std::time::Duration;
 use std::{array, thread};
-
-/// A map has at most this many stripes.
-const STRIPES: usize = 64;
 
 /// A thread that waits lets others run this often, and looks again each time.
 const YIELDS: u32 = 40;
 
 /// After that it sleeps for these times, in microseconds, and then it starves. The system adds some 50 to each.
 const NAPS: [u64; 4] = [50, 100, 200, 400];
+
+/// A map has at most this many stripes.
+const STRIPES: usize = MAX_STRIPES as usize;
 
 /// How many starve at each stripe of a map.
 #[derive(Drop)]
@@ -28,6 +29,12 @@ impl Turns {
         Turns {
             starving: array::from_fn(|_| AtomicU64::new(0)),
         }
+    }
+
+    /// Whether nobody starves at a stripe.
+    #[inline(always)]
+    pub(crate) fn are_free(&self, stripe: usize) -> bool {
+        self.starving[stripe % STRIPES].load(Ordering::Relaxed) == 0
     }
 
     /// A thread comes to a stripe.

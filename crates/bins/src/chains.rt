@@ -298,7 +298,7 @@ impl Chains {
         ensures hashes { self.new.records.hashes ≡ self.old.records.hashes }
     {
         let bins = self.heads.len();
-        make_room(&mut self.heads)?;
+        make_room(&mut self.heads, HEAD_BYTES)?;
         self.heads.push_reserved(0);
         self.half = half_for(self.half, bins);
         self.part(bins);

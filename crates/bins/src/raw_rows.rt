@@ -6,6 +6,7 @@ ghost use Rattle.bins.specs.KeptRows.{kept, nobody, location_at, row_at, string_
 ghost use Rattle.bins.specs.Rows.{AreEmpty, AreIn, AreWider, AreWidths, FitIn, IsKept, IsRoomy, keys_in, lists_in, rows_in, segments_for, used, values_in, width_at};
 ghost use Rattle.bins.specs.declared.location.Location.TheVariants.{Vacant};
 
+use crate::growth::make_room_for;
 use crate::location::{Location, LocationWord, MOST_ROWS, Width};
 use crate::segment::Segment;
 use crate::width_rows::WidthRows;
@@ -104,9 +105,9 @@ fn widen(widths: &mut Vec<WidthRows>, many: usize) -> Result<(), NoMemory>
     Ok(())
 }
 
-/// Asks for free segments until there are `wanted` of them together with those that hold rows. Returns `NoMemory` if a
+/// Adds free segments at the end until there are `wanted` of them together with those that hold rows. Returns `NoMemory` if a
 /// request is refused.
-fn add_segments(free: &mut Vec<Segment>, used: usize, wanted: usize) -> Result<(), NoMemory>
+fn append_segments(free: &mut Vec<Segment>, used: usize, wanted: usize) -> Result<(), NoMemory>
     requires bounded { wanted ≤ MOST_ROWS }
     requires pool { used + length free.old.items ≤ vec_capacity free.old }
     ensures pool { used + length free.new.items ≤ vec_capacity free.new }
@@ -122,6 +123,21 @@ fn add_segments(free: &mut Vec<Segment>, used: usize, wanted: usize) -> Result<(
         free.push_reserved(Segment::new(alloc)?);
     }
     Ok(())
+}
+
+/// Does the same, but puts the new segments first: so rows take those that were touched before, which lie at the end.
+fn add_segments(free: &mut Vec<Segment>, used: usize, wanted: usize) -> Result<(), NoMemory>
+    requires bounded { wanted ≤ MOST_ROWS }
+    requires pool { used + length free.old.items ≤ vec_capacity free.old }
+    ensures pool { used + length free.new.items ≤ vec_capacity free.new }
+    ensures more { length free.old.items ≤ length free.new.items }
+    ensures ok { OnOk result (wanted ≤ used + length free.new.items) }
+{
+    let before = free.len();
+    let added = append_segments(free, used, wanted);
+    let new = free.len() - before;
+    free.rotate_right(new);
+    added
 }
 
 /// Returns what the segments after the first `kept` take.
@@ -152,10 +168,10 @@ impl RawRows {
         }
     }
 
-    /// Returns how many bytes were asked for and may be touched: the room of the list of locations, and those bytes of
-    /// segments that were touched so far.
+    /// Returns how many bytes were touched, or may be: the locations that have room, and those bytes of segments that were
+    /// touched so far.
     pub(crate) fn bytes(&self) -> usize {
-        let listed = self.locations.capacity().saturating_mul(LOCATION_BYTES);
+        let listed = self.room.saturating_mul(LOCATION_BYTES);
         self.touched.saturating_add(listed)
     }
 
@@ -578,8 +594,8 @@ impl RawRows {
         ensures room { IsRoomy self.new }
     {
         self.open()?;
-        self.locations
-            .try_reserve_exact(many - self.locations.len())?;
+        let more = many - self.locations.len();
+        make_room_for(&mut self.locations, more, size_of::<LocationWord>())?;
         widen(&mut self.widths, many)?;
         let used = count_used(&self.widths);
         let free = self.free.len();

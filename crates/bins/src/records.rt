@@ -95,7 +95,7 @@ impl Records {
         ensures ok_nexts { OnOk result (self.new.nexts ≡ self.old.nexts ++ next ∷ []) }
         ensures err { OnErr result (self.new ≡ self.old) }
     {
-        make_room(&mut self.list)?;
+        make_room(&mut self.list, size_of::<Record>())?;
         self.list.push_reserved(Record { hash, next });
         Ok(())
     }

@@ -2,3 +2,4 @@ pub mod Walks
 pub mod Turns
 pub mod Merges
 pub mod Kept
+pub mod Leads

@@ -1,5 +1,6 @@
 //! A worker's answers, and their order.
 ghost use Rattle.std.specs.Prelude.{◌≡◌, IfOk, length};
+ghost use Rattle.bulk_walks.specs.Leads.{leads_in};
 ghost use Rattle.std.specs.List.{range_with_len};
 ghost use Rattle.std.specs.List.Sorted.{IsPermutation, IsSortedBy};
 ghost use Rattle.bins.specs.Copies.{comes_before};
@@ -12,13 +13,16 @@ use std::alloc::Global;
 use std::cmp::Ordering;
 
 /// The answers that a worker keeps, with their keys, as they came, and the order of their keys: all positions for `ForEach`. For
-/// `Search` there is at most one item, and no order.
+/// `Search` there is at most one item, and no order. The leads are the first bytes of the keys in this order, as numbers: whoever
+/// compares them need not read the keys, which lie far apart.
 #[derive(Drop)]
 pub(crate) struct Answers {
     pub(crate) items: EntryList,
     pub(crate) order: Vec<usize>,
+    pub(crate) leads: Vec<u64>,
     pub(crate) scanned: u64,
     pub(crate) unfit: u64,
+    ghost led: { leads.items ≡ leads_in items order.items },
 }
 
 impl Answers {
@@ -70,4 +74,19 @@ pub(crate) fn order_of(alloc: Global, list: &EntryList) -> Result<Vec<usize>, No
     let mut order = nearly_ordered(alloc, list)?;
     order.sort_unstable_by(|one, other| compare_at(list, *one, *other));
     Ok(order)
+}
+
+/// Returns the first bytes of the keys in this order, as numbers.
+pub(crate) fn leads_of(
+    alloc: Global,
+    list: &EntryList,
+    order: &[usize],
+) -> Result<Vec<u64>, NoMemory>
+    ensures { IfOk result (λ leads. leads.items ≡ leads_in list.now order.now) }
+{
+    let mut leads = Vec::with_capacity(alloc, order.len())?;
+    for position in order {
+        leads.push(list.front(*position))?;
+    }
+    Ok(leads)
 }

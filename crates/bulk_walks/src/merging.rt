@@ -10,6 +10,7 @@ ghost use Rattle.atomic_methods.specs.declared.walk_reply.WalkKind.TheVariants.{
 ghost use Rattle.atomic_methods.specs.Replies.{chosen};
 ghost use Rattle.bulk_walks.specs.Turns.{items_in};
 ghost use Rattle.bulk_walks.specs.Kept.{StandForAll, IsFirst, kept_in, kept_of, lists_of_all};
+ghost use Rattle.bulk_walks.specs.Leads.{leads_in};
 ghost use Rattle.bulk_walks.specs.Merges.{comes_first, lead_of, left_of, lefts_of, lists_of, whole_of, HasAll, TakesLeast, IsMerge, CountsAdd};
 
 use crate::answers::Answers;
@@ -141,12 +142,13 @@ fn first_positions(
     Ok(positions)
 }
 
-/// Borrowed items in an order, and how many were taken from its front. The lead is the first bytes of the first remaining key,
-/// kept as a number. If nothing is left the lead is the greatest number.
+/// Borrowed items in an order with their leads, and how many were taken from its front. The lead is that of the first remaining
+/// item. If nothing is left it is the greatest number.
 #[derive(Drop)]
 struct Rest<'a> {
     items: &'a EntryList,
     order: &'a [usize],
+    leads: &'a [u64],
     next: usize,
     lead: u64,
 }
@@ -155,13 +157,15 @@ impl<'a> Model for Rest<'a> {
     ghost use Rattle.std.specs.Prelude.{◌≡◌, drop};
     ghost use Rattle.bins.specs.Entries.{entries_at, entry_of};
     ghost use Rattle.bins.specs.Fronts.{AreBytes};
+    ghost use Rattle.bulk_walks.specs.Leads.{leads_in};
     ghost use Rattle.bulk_walks.specs.Merges.{Remains, lead_of};
 
     ghost Value = { Remains };
 
     ghost view = { λ rest. record { list = rest.items.now; order = rest.order.now; taken = rest.next } };
 
-    ghost invariant = { λ rest. (rest.lead ≡ lead_of (entries_at rest.items.now (drop rest.next rest.order.now)))
+    ghost invariant = { λ rest. (rest.leads.now ≡ leads_in rest.items.now rest.order.now)
+        × (rest.lead ≡ lead_of (entries_at rest.items.now (drop rest.next rest.order.now)))
         × AreBytes (entry_of (entries_at rest.items.now (drop rest.next rest.order.now)) 0).0 };
 }
 
@@ -173,8 +177,9 @@ impl<'a> Rest<'a> {
         Rest {
             items: &answers.items,
             order: &answers.order,
+            leads: &answers.leads,
             next: 0,
-            lead: lead_at(&answers.items, &answers.order, 0),
+            lead: lead_at(&answers.items, &answers.order, &answers.leads, 0),
         }
     }
 
@@ -215,7 +220,7 @@ impl<'a> Rest<'a> {
         }
         let position = self.order[self.next];
         self.next += 1;
-        self.lead = lead_at(self.items, self.order, self.next);
+        self.lead = lead_at(self.items, self.order, self.leads, self.next);
         Some(position)
     }
 }
@@ -247,12 +252,15 @@ fn take_least(rests: &mut Vec<Rest<'_>>) -> Option<EntryPosition>
 
 /// Returns the lead of the items in this order, from a place in it on.
 #[inline(always)]
-fn lead_at(items: &EntryList, order: &[usize], next: usize) -> u64
+fn lead_at(items: &EntryList, order: &[usize], leads: &[u64], next: usize) -> u64
+    requires led { leads.now ≡ leads_in items.now order.now }
     ensures value { result ≡ lead_of (entries_at items.now (drop next order.now)) }
     ensures bytes { AreBytes (entry_of (entries_at items.now (drop next order.now)) 0).0 }
 {
     if next < order.len() {
-        return items.front(order[next]);
+        // Only for the proof: that the key has bytes. The compiled program doesn't read it.
+        let _ = items.front(order[next]);
+        return leads[next];
     }
     u64::MAX
 }

@@ -1,11 +1,11 @@
 //! The program's runs on one worker's entries.
-ghost use Rattle.std.specs.Prelude.{◌≡◌, ◌<◌, ◌≤◌, ◌∷◌, [], All, List, ℕ, Some, IfOk, length, option_copied};
+ghost use Rattle.std.specs.Prelude.{◌≡◌, ◌<◌, ◌≤◌, ◌++◌, ◌∷◌, [], All, List, ℕ, Some, IfOk, OnOk, length, option_copied};
 ghost use Rattle.bpf_model.specs.Fits.{HasInputBytes, input_of};
 ghost use Rattle.atomic_methods.specs.declared.walk_reply.WalkKind.TheVariants.{Search, ForEach};
 ghost use Rattle.bulk_walks.specs.Kept.{IsAnswered, IsOffered, RunsOnAll, FindsFirst, item_at};
 ghost use Rattle.bulk_walks.specs.Merges.{comes_first};
 
-use crate::answers::{Answers, order_of};
+use crate::answers::{Answers, leads_of, order_of};
 use bins::EntryList;
 use bpf_machine::{Machine, run_into};
 use bpf_model::limits::{KEY_BYTES, VALUE_BYTES};
@@ -83,6 +83,19 @@ fn answer(
     Ok(run_into(program, own_key, Some(value), arg, machine, answer))
 }
 
+/// Adds an answer with its key. Before the first one, asks for room for this many: a walk that answers nothing asks for none.
+#[inline(always)]
+fn keep(items: &mut EntryList, most: usize, key: &[u8], answer: &[u8]) -> Result<(), NoMemory>
+    requires key { length key.now ≤ KEY_BYTES }
+    requires answer { length answer.now ≤ VALUE_BYTES }
+    ensures ok { OnOk result (items.new ≡ items.old ++ (key.now, answer.now) ∷ []) }
+{
+    if items.is_empty() {
+        items.reserve(most)?;
+    }
+    items.push(key, answer)
+}
+
 /// Runs the program on each entry in turn. Returns its answers with their keys, and how many entries don't fit.
 fn run_on_all(
     alloc: Global,
@@ -94,13 +107,12 @@ fn run_on_all(
 {
     let mut items = EntryList::new(alloc);
     let count = entries.len();
-    items.reserve(count)?;
     let mut bench = Workbench::new();
     let mut unfit = 0;
     for position in 0..count {
         let (key, value) = entries.get(position);
         match answer(program, key, value, arg, true, &mut bench) {
-            Ok(true) => items.push(key, bench.answer.as_slice())?,
+            Ok(true) => keep(&mut items, count - position, key, bench.answer.as_slice())?,
             Ok(false) => {}
             Err(_) => unfit += 1,
         }
@@ -121,9 +133,11 @@ pub(crate) fn all_answers(
     let scanned = entries.len() as u64;
     let (items, unfit) = run_on_all(alloc, entries, program, arg)?;
     let order = order_of(alloc, &items)?;
+    let leads = leads_of(alloc, &items, &order)?;
     Ok(Answers {
         items,
         order,
+        leads,
         scanned,
         unfit,
     })
@@ -189,6 +203,7 @@ pub(crate) fn first_answer(
     Ok(Answers {
         items,
         order: Vec::new(alloc),
+        leads: Vec::new(alloc),
         scanned: entries.len() as u64,
         unfit,
     })

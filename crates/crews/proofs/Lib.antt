@@ -3,6 +3,7 @@ pub mod ChainLemmas
 pub mod NumberLemmas
 pub mod StepLemmas
 pub mod SharedLemmas
+pub mod WholeLemmas
 pub mod ThreadLemmas
 pub mod ServeLemmas
 pub mod TokenLemmas

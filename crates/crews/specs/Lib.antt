@@ -12,3 +12,4 @@ pub mod Seats
 pub mod Posts
 pub mod Shared
 pub mod Together
+pub mod Whole

@@ -88,12 +88,13 @@ abbrev pub HearsEach : PassState → List PassState → PassState → Type 0
 HearsEach old [] new = new ≡ old
 HearsEach old (pass ∷ passes) new = (next : PassState) × IsToldBy pass old next × HearsEach next passes new
 
--- the team is told what the crew's pass knows, walks, and is heard
+-- the team, whose passes stay those of the map, is told what the crew's pass knows, walks, and is heard
 pub record TeamWalks (old : Station) (Walks : List PassState → List PassState → Type 0) (new : Station) : Type 0 where
   pub told : List PassState
   pub tells : Pairwise (IsToldBy old.pass) old.team told
   pub walks : Walks told new.team
   pub hears : HearsEach old.pass new.team new.pass
+  pub map : All (λ member. member.map ≡ old.pass.map) new.team
   pub tokens : new.tokens ≡ old.tokens
 
 -- the team walks and has this answer; or it is refused memory, and what it did then is by `Stops`

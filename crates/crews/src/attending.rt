@@ -25,15 +25,12 @@ use client_protocol::ShortResponse;
 use devices::{Channel, Sent};
 use redis_scripts::Scripts;
 use redis_service::{NO_ROOM_LINE, RedisDesk};
-use server_state::{Password, ServerState};
+use server_state::{Password, ServerState, client_number};
 use sessions::Conversation;
 use slab::Slab;
 use std::alloc::Global;
 use std::sync::Wait;
 use std::thread::Threads;
-
-/// No map has passes for more workers.
-const MOST_WORKERS: u64 = 64;
 
 /// What a worker has at hand: the password that clients of commands have to show, the room of all turns, the clients in their seats, how
 /// many came, and whether its last sweep left entries whose time is over.
@@ -81,8 +78,7 @@ fn turn_away<C: Channel, P: Clients<C>>(
 impl<'a, 'r, C: Channel + Drop> Attendant<'a, 'r, C> {
     /// The number that tells the next client from others, also from those of other workers.
     fn next_number(&self) -> u64 {
-        let own = u64::from(self.room.number).wrapping_add(1);
-        self.came.wrapping_mul(MOST_WORKERS).wrapping_add(own)
+        client_number(self.room.number, self.came)
     }
 
     /// A client came with this connection, speaks this protocol, and takes a seat. It has no token yet.

@@ -21,6 +21,7 @@ mod talk;
 mod team;
 mod tokens;
 mod turn;
+mod whole;
 mod worker;
 
 pub use accept::Accept;
@@ -32,4 +33,5 @@ pub use posts::{Post, attend_each};
 pub use server::serve;
 pub use shared::join_sessions;
 pub use tokens::Tokens;
+pub use whole::join_crews;
 pub use worker::Worker;

@@ -1,3 +1,9 @@
 mod QueryLemmas
 pub mod ReadLemmas
 pub mod RowLemmas
+pub mod TextLemmas
+pub mod StoredLemmas
+pub mod AnswerLemmas
+pub mod DeleteLemmas
+pub mod PutLemmas
+pub mod OtherLemmas

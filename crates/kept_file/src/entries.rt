@@ -1,8 +1,9 @@
 //! The entries of a file, read one after the other.
-ghost use Rattle.std.specs.Prelude.{◌≡◌, ◌<◌, [], Some, IsTrue, IfOk, OnOk};
+ghost use Rattle.std.specs.Prelude.{◌≡◌, ◌<◌, [], Some, false, IsTrue, IfOk, OnOk};
 ghost use Rattle.sqlite.specs.Given.{row_if};
 ghost use Rattle.sqlite.specs.Held.{state};
 ghost use Rattle.sqlite.specs.State.{HasCleanDisk, Survives};
+ghost use Rattle.kept_file.specs.Content.{AreEntries, HasTables};
 ghost use Rattle.kept_file.specs.Reading.{HandedOut, HandsOut};
 ghost use Rattle.kept_file.specs.Rows.{entry_row};
 
@@ -89,6 +90,8 @@ pub fn next<S: Alter>(
     ensures stripe { IfOk result (λ found. IsTrue found → entry.new.stripe < stripes) }
     ensures same_reference { entries.new.conn.ghost_name ≡ entries.old.conn.ghost_name }
     ensures hands { HasCleanDisk (state S.Store entries.new.conn.now) → IfOk result (λ found. HandsOut S.Store entries.old.conn.now entries.new.conn.now found entry.new) }
+    ensures all { HasCleanDisk (state S.Store entries.new.conn.now) → IfOk result (λ found. found ≡ false → (start : _) (handed : _) → HandedOut S.Store start entries.old.conn.now handed
+        → HasTables (state S.Store start) → AreEntries (state S.Store start) handed) }
     ensures kept { Survives (state S.Store entries.old.conn.now) (state S.Store entries.new.conn.now) (λ _. ⊥) }
 {
     entries.advance().map_err(read_fault)?;

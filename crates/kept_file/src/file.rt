@@ -180,7 +180,7 @@ impl<S: Alter> KeptFile<S> {
     }
 
     /// Begins a save, which `commit` ends. `Unwritable` if an earlier one has not ended, which cannot be.
-    pub fn begin(&mut self) -> Result<Save<'_, S>, KeepFault>
+    fn begin(&mut self) -> Result<Save<'_, S>, KeepFault>
         ensures { IfOk result (λ save. save.conn.now ≡ record self.old.conn { in_transaction = true }) }
     {
         if !self.conn.is_autocommit() {

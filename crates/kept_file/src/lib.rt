@@ -1,6 +1,6 @@
 //! The file in which a map is kept: a SQLite database of four tables.
 //!
-//! `KeptFile::open` opens it or makes it. `begin` begins a save, which is one transaction: until `Save::commit` the file is as it
+//! `KeptFile::open` opens it or makes it. A save is one transaction of its `connection`: until `Save::commit` the file is as it
 //! was, and if the save is dropped, or the process ends, it stays so (`Survives` of the kit's `sqlite`). What a file holds is read
 //! back as programs, scripts and entries, or refused: a row that no save wrote is never handed out. A refused request for memory
 //! is the fault `NoMemory`.

@@ -4,6 +4,7 @@ ghost use Rattle.sqlite.specs.Held.{state};
 ghost use Rattle.sqlite.specs.State.{HasCleanDisk, Survives};
 ghost use Rattle.sqlite.specs.Values.{bound};
 ghost use Rattle.sqlite.specs.declared.types.Value.TheVariants.{Blob};
+ghost use Rattle.kept_file.specs.Content.{Exchanges, HasTables, IsOfKey, IsOfStripe};
 ghost use Rattle.kept_file.specs.Rows.{kept_number, number, entry_row, program_row, stripes_row};
 ghost use Rattle.kept_file.specs.Saves.{Makes};
 
@@ -13,7 +14,7 @@ use bpf_model::Sizes;
 use sqlite::types::ValueRef;
 use sqlite::{Alter, Transaction, params};
 
-/// A save in hand. The file on the disk stays as it was before `KeptFile::begin` until `commit`, and for good if the save is
+/// A save in hand. The file on the disk stays as it was before the save began until `commit`, and for good if the save is
 /// dropped. The faults of the calls below are `Unwritable` or `Full` if the disk failed, and `NoMemory` if a request for memory was
 /// refused.
 pub type Save<'file, S> = Transaction<'file, S>;
@@ -59,14 +60,26 @@ pub fn set_stripes<S: Alter>(save: &mut Save<'_, S>, stripes: u64) -> Result<(),
     run(save, SET, params!["stripes", kept(stripes)])
 }
 
-/// Takes away all entries of a stripe.
-pub fn start_anew<S: Alter>(save: &mut Save<'_, S>, stripe: u64) -> Result<(), KeepFault>
+/// Makes the statement that takes away all entries of a stripe.
+fn clear<S: Alter>(save: &mut Save<'_, S>, stripe: u64) -> Result<(), KeepFault>
     ensures same_reference { save.new.conn.ghost_name ≡ save.old.conn.ghost_name }
     ensures made { HasCleanDisk (state S.Store save.new.conn.now) → OnOk result
         (Makes START_ANEW.now (number (kept_number stripe) ∷ []) (state S.Store save.old.conn.now) (state S.Store save.new.conn.now)) }
     ensures kept { Survives (state S.Store save.old.conn.now) (state S.Store save.new.conn.now) (λ _. ⊥) }
 {
     run(save, START_ANEW, params![kept(stripe)])
+}
+
+/// Takes away all entries of a stripe.
+pub fn start_anew<S: Alter>(save: &mut Save<'_, S>, stripe: u64) -> Result<(), KeepFault>
+    ensures same_reference { save.new.conn.ghost_name ≡ save.old.conn.ghost_name }
+    ensures made { HasCleanDisk (state S.Store save.new.conn.now) → OnOk result
+        (Makes START_ANEW.now (number (kept_number stripe) ∷ []) (state S.Store save.old.conn.now) (state S.Store save.new.conn.now)) }
+    ensures entries { HasCleanDisk (state S.Store save.new.conn.now) → HasTables (state S.Store save.old.conn.now) → OnOk result
+        (Exchanges (IsOfStripe (kept_number stripe)) [] (state S.Store save.old.conn.now) (state S.Store save.new.conn.now)) }
+    ensures kept { Survives (state S.Store save.old.conn.now) (state S.Store save.new.conn.now) (λ _. ⊥) }
+{
+    clear(save, stripe)
 }
 
 /// Enters an entry that has no deadline.
@@ -111,6 +124,8 @@ pub fn put<S: Alter>(
     ensures same_reference { save.new.conn.ghost_name ≡ save.old.conn.ghost_name }
     ensures made { HasCleanDisk (state S.Store save.new.conn.now) → OnOk result
         (Makes PUT.now (entry_row (kept_number stripe) key.now value.now (option_map kept_number deadline)) (state S.Store save.old.conn.now) (state S.Store save.new.conn.now)) }
+    ensures entries { HasCleanDisk (state S.Store save.new.conn.now) → HasTables (state S.Store save.old.conn.now) → OnOk result
+        (Exchanges (IsOfKey (kept_number stripe) key.now) (entry_row (kept_number stripe) key.now value.now (option_map kept_number deadline) ∷ []) (state S.Store save.old.conn.now) (state S.Store save.new.conn.now)) }
     ensures kept { Survives (state S.Store save.old.conn.now) (state S.Store save.new.conn.now) (λ _. ⊥) }
 {
     match deadline {
@@ -119,14 +134,26 @@ pub fn put<S: Alter>(
     }
 }
 
-/// Takes away the entry that a key has in a stripe, if there is one.
-pub fn remove<S: Alter>(save: &mut Save<'_, S>, stripe: u64, key: &[u8]) -> Result<(), KeepFault>
+/// Makes the statement that takes away the entry of a key in a stripe.
+fn clear_key<S: Alter>(save: &mut Save<'_, S>, stripe: u64, key: &[u8]) -> Result<(), KeepFault>
     ensures same_reference { save.new.conn.ghost_name ≡ save.old.conn.ghost_name }
     ensures made { HasCleanDisk (state S.Store save.new.conn.now) → OnOk result
         (Makes REMOVE.now (number (kept_number stripe) ∷ Blob key.now ∷ []) (state S.Store save.old.conn.now) (state S.Store save.new.conn.now)) }
     ensures kept { Survives (state S.Store save.old.conn.now) (state S.Store save.new.conn.now) (λ _. ⊥) }
 {
     run(save, REMOVE, params![kept(stripe), key])
+}
+
+/// Takes away the entry that a key has in a stripe, if there is one.
+pub fn remove<S: Alter>(save: &mut Save<'_, S>, stripe: u64, key: &[u8]) -> Result<(), KeepFault>
+    ensures same_reference { save.new.conn.ghost_name ≡ save.old.conn.ghost_name }
+    ensures made { HasCleanDisk (state S.Store save.new.conn.now) → OnOk result
+        (Makes REMOVE.now (number (kept_number stripe) ∷ Blob key.now ∷ []) (state S.Store save.old.conn.now) (state S.Store save.new.conn.now)) }
+    ensures entries { HasCleanDisk (state S.Store save.new.conn.now) → HasTables (state S.Store save.old.conn.now) → OnOk result
+        (Exchanges (IsOfKey (kept_number stripe) key.now) [] (state S.Store save.old.conn.now) (state S.Store save.new.conn.now)) }
+    ensures kept { Survives (state S.Store save.old.conn.now) (state S.Store save.new.conn.now) (λ _. ⊥) }
+{
+    clear_key(save, stripe, key)
 }
 
 /// Adds a program. No program of the file may have its number: else `Damaged`, and nothing is added.

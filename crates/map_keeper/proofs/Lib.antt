@@ -1,3 +1,5 @@
 pub mod RestoreLemmas
 pub mod SaveLemmas
 pub mod WriteLemmas
+pub mod KeptLemmas
+pub mod HistoryLemmas

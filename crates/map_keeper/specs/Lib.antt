@@ -2,3 +2,4 @@ pub mod Keepers
 pub mod Saves
 pub mod Restores
 pub mod Written
+pub mod Kept

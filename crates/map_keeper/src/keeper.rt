@@ -1,8 +1,10 @@
 //! What keeps a map in a file.
-ghost use Rattle.std.specs.Prelude.{◌≡◌, ℕ, ◌<◌, true, false, IfOk, OnOk, OnErr};
+ghost use Rattle.std.specs.Prelude.{◌≡◌, ℕ, ◌<◌, ◌^◌, [], ◌∷◌, true, false, IfOk, OnOk, OnErr};
+ghost use Rattle.stripe_rule.specs.Gains.{seen_of};
 ghost use Rattle.bin_stripes.specs.Passes.{ServesSameMap, stripes_of};
 ghost use Rattle.sqlite.specs.Held.{state};
 ghost use Rattle.sqlite.specs.State.{HasCleanDisk, Survives};
+ghost use Rattle.map_keeper.specs.Kept.{HasContent, IsInStep, OnlySaves};
 ghost use Rattle.map_keeper.specs.Saves.{IsWhole, MadeOnlySaves};
 ghost use Rattle.map_keeper.specs.Written.{IsSavedSince, SavesMap, WouldSave};
 
@@ -88,6 +90,13 @@ impl<S: Alter + Drop> Keeper<S> {
         ensures ends { OnOk result ((k : ℕ) → k < stripes_of shared.now.map.now → IsSavedSince self.old.takes_anew self.old.taker.pass.view self.new.taker.pass.view k) }
         ensures wrote { HasCleanDisk (state S.Store self.new.file.conn) → OnOk result
             (SavesMap (state S.Store) self.old.takes_anew self.old.taker.pass.view self.new.taker.pass.view (stripes_of shared.now.map.now) self.old.file.conn self.new.file.conn) }
+        ensures file { HasCleanDisk (state S.Store self.new.file.conn) → stripes_of shared.now.map.now < 2 ^ 63
+            → IsInStep self.old.takes_anew self.old.taker.pass.view (stripes_of shared.now.map.now) (state S.Store self.old.file.conn)
+            → OnOk result (IsInStep false self.new.taker.pass.view (stripes_of shared.now.map.now) (state S.Store self.new.file.conn)) }
+        ensures content { HasCleanDisk (state S.Store self.new.file.conn) → stripes_of shared.now.map.now < 2 ^ 63
+            → IsInStep self.old.takes_anew self.old.taker.pass.view (stripes_of shared.now.map.now) (state S.Store self.old.file.conn)
+            → OnOk result ((k q : ℕ) → k < stripes_of shared.now.map.now → self.new.taker.pass.view.numbers ≡ q ∷ [] → OnlySaves q (seen_of self.new.taker.pass.view k)
+            → HasContent (state S.Store self.new.file.conn) self.new.taker.pass k) }
         ensures crash { Survives (state S.Store self.old.file.conn) (state S.Store self.new.file.conn)
             (WouldSave (state S.Store) self.old.takes_anew self.old.taker.pass.view self.new.taker.pass.view (stripes_of shared.now.map.now) self.old.file.conn) }
         ensures ok { OnOk result (self.new.takes_anew ≡ false) }
@@ -102,6 +111,7 @@ impl<S: Alter + Drop> Keeper<S> {
         let in_file = self.taker.save_all(rt, self.alloc, shared, &had, conn)?;
         self.in_file = in_file;
         self.takes_anew = false;
+        self.taker.pass.vouch();
         Ok(())
     }
 }

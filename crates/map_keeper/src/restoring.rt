@@ -9,6 +9,8 @@ ghost use Rattle.timed_bins.specs.Deadlines.{is_over};
 ghost use Rattle.program_registry.specs.Sent.{IsSentAs};
 ghost use Rattle.program_registry.specs.Tokens.{IsOf, program_of};
 ghost use Rattle.kept_file.specs.Reading.{HandedOut};
+ghost use Rattle.kept_file.specs.Content.{HasTables};
+ghost use Rattle.map_keeper.specs.Kept.{EntersStripes};
 ghost use Rattle.map_keeper.specs.Restores.{AreRestored, CountsScripts, Enters, IsRestored, RestoresEntries, RestoresPrograms, change_to, has_time, put_of, timing_of};
 
 use crate::fault::RestoreFault;
@@ -310,6 +312,8 @@ impl<S: Alter> Keeper<S> {
         ensures same { ServesSameMap self.old.taker.pass self.new.taker.pass }
         ensures entries { HasCleanDisk (state S.Store self.new.file.conn) → IfOk result (λ restored. RestoresEntries (state S.Store self.old.file.conn)
             (self.old.in_file.stripes == stripes_of shared.now.map.now) now self.old.taker.pass self.new.taker.pass restored.entries) }
+        ensures stripes { HasCleanDisk (state S.Store self.new.file.conn) → HasTables (state S.Store self.old.file.conn)
+            → OnOk result (EntersStripes (state S.Store self.old.file.conn) now self.old.taker.pass self.new.taker.pass) }
         ensures programs { HasCleanDisk (state S.Store self.new.file.conn) → IfOk result (λ restored. RestoresPrograms (state S.Store self.old.file.conn) shared.now.registry.now restored.programs.items) }
         ensures scripts { HasCleanDisk (state S.Store self.new.file.conn) → IfOk result (λ restored. CountsScripts (state S.Store self.old.file.conn) restored.scripts) }
         ensures unchanged { HasCleanDisk (state S.Store self.new.file.conn) → OnOk result (IsUnchanged (state S.Store self.old.file.conn) (state S.Store self.new.file.conn)) }

@@ -4,14 +4,28 @@ use crate::sockets::{discard_piece, keep_alive, tell_no_room};
 use crews::Protocol;
 use devices::{Channel, Received, Sent};
 use mio::net::TcpStream;
-use std::io::{ErrorKind, Read, Write};
-use std::net::Shutdown;
+use server_state::{ClientText, client_text};
+use std::alloc::{AllocError, Global};
+use std::io::{self, ErrorKind, Read, Write};
+use std::net::{Shutdown, SocketAddr};
 use std::os::fd::AsRawFd;
 
 /// A client's connection. A call that a signal interrupts is made again. It tells none of its bytes.
 #[derive(Drop)]
 pub struct Connection {
     stream: TcpStream,
+}
+
+/// Returns the text of an address; empty if there is none, or no memory for it.
+fn address_text(alloc: Global, address: io::Result<SocketAddr>) -> ClientText {
+    let Ok(address) = address else {
+        return client_text(&[]);
+    };
+    let text: Result<String, AllocError> = format!(in alloc; "{address}");
+    match text {
+        Ok(text) => client_text(text.as_bytes()),
+        Err(_) => client_text(&[]),
+    }
 }
 
 impl Connection {
@@ -25,6 +39,21 @@ impl Connection {
     /// The stream, for the poll that watches it.
     pub(crate) fn stream_mut(&mut self) -> &mut TcpStream {
         &mut self.stream
+    }
+
+    /// Returns the client's address, as it is listed; empty if the system doesn't say.
+    pub(crate) fn address(&self, alloc: Global) -> ClientText {
+        address_text(alloc, self.stream.peer_addr())
+    }
+
+    /// Returns the address that the client came to.
+    pub(crate) fn local_address(&self, alloc: Global) -> ClientText {
+        address_text(alloc, self.stream.local_addr())
+    }
+
+    /// Returns the descriptor.
+    pub(crate) fn descriptor(&self) -> u64 {
+        u64::try_from(self.stream.as_raw_fd()).unwrap_or(0)
     }
 
     /// Tells the client, which speaks this protocol, that there is no room for it.

@@ -22,6 +22,7 @@ mod ports;
 mod posts;
 mod program;
 mod quotas;
+mod roll;
 mod seats;
 mod server;
 mod shared_stream;

@@ -6,6 +6,7 @@ use crate::door::sooner;
 use crate::doors::Doors;
 use crate::entrance::{Arrival, Entrance, Look};
 use crate::ports::{COMMANDS_PORT, FRAMES_PORT, WAKE};
+use crate::roll::Roll;
 use crate::seats::{Seats, Stirring};
 use crate::stopwatch::Stopwatch;
 use crate::sweeps::Sweeps;
@@ -44,6 +45,9 @@ pub(crate) struct TcpClients<'a, 'b, 'c, H: Wait + Clock, E: Sink> {
     departures: Departures,
     next_look: Duration,
     sweeps: Sweeps,
+    roll: Roll<'a>,
+    /// The time of day when the stopwatch began, in milliseconds since the epoch.
+    began: u64,
 }
 
 impl<'a, 'b, 'c, H: Wait + Clock, E: Sink> TcpClients<'a, 'b, 'c, H, E> {
@@ -68,6 +72,8 @@ impl<'a, 'b, 'c, H: Wait + Clock, E: Sink> TcpClients<'a, 'b, 'c, H, E> {
             departures: Departures::new(alloc),
             next_look: Duration::ZERO,
             sweeps: Sweeps::new(),
+            roll: Roll::new(alloc, entrance.state, worker),
+            began: entrance.wall_clock.look(),
         })
     }
 
@@ -120,15 +126,33 @@ impl<'a, 'b, 'c, H: Wait + Clock, E: Sink> TcpClients<'a, 'b, 'c, H, E> {
 
     /// The next client that comes in, if one is looked for now.
     fn next_client(&mut self) -> Option<Event<Connection>> {
-        if let Some(connection) = self.next_of(Protocol::Frames) {
-            return Some(Event::Came(connection, Protocol::Frames));
+        for protocol in [Protocol::Frames, Protocol::Commands] {
+            if let Some(connection) = self.next_of(protocol) {
+                self.roll.expect(protocol);
+                return Some(Event::Came(connection, protocol));
+            }
         }
-        let connection = self.next_of(Protocol::Commands)?;
-        Some(Event::Came(connection, Protocol::Commands))
+        None
+    }
+
+    /// The time of day when the clock was last looked at, in milliseconds since the epoch.
+    fn time_of_day(&self) -> u64 {
+        let gone = u64::try_from(self.stopwatch.now().as_millis()).unwrap_or(u64::MAX);
+        self.began.saturating_add(gone)
+    }
+
+    /// Hears whether clients are to be let go. If so, no other worker waits any longer.
+    fn hear_kills(&mut self) {
+        if self.roll.hears_kills() {
+            self.entrance.wake_all();
+        }
     }
 
     /// What is to be done now for a client; none if the system is to be asked.
     fn client_at_hand(&mut self) -> Option<Event<Connection>> {
+        if let Some(seat) = self.roll.next_killed() {
+            return Some(Event::LetGo(seat));
+        }
         if let Some(seat) = self.next_silent() {
             return Some(Event::LetGo(seat));
         }
@@ -246,6 +270,7 @@ impl<'a, 'b, 'c, H: Wait + Clock, E: Sink> Clients<Connection> for TcpClients<'a
             if self.is_ending() {
                 return Event::Over;
             }
+            self.hear_kills();
             if let Some(event) = self.event_at_hand() {
                 return event;
             }
@@ -269,18 +294,31 @@ impl<'a, 'b, 'c, H: Wait + Clock, E: Sink> Clients<Connection> for TcpClients<'a
 
     fn watch(&mut self, seat: usize, channel: &mut Connection) -> Result<(), NoMemory> {
         self.seats.take(seat, self.stopwatch.now())?;
+        let entrance = self.entrance;
+        let rt = entrance.arrivals.rt;
+        let now = self.time_of_day();
+        if self.roll.come(rt, seat, channel, now).is_err() {
+            self.seats.leave(seat);
+            return Err(NoMemory);
+        }
         let interest = Interest::READABLE | Interest::WRITABLE;
         let stream = channel.stream_mut();
         match self.poll.registry().register(stream, Token(seat), interest) {
-            Ok(()) => Ok(()),
+            Ok(()) => {
+                self.roll.keep();
+                Ok(())
+            }
             Err(_) => {
                 self.seats.leave(seat);
+                self.roll.leave(rt, seat);
                 Err(NoMemory)
             }
         }
     }
 
     fn served(&mut self, seat: usize, standing: Standing) {
+        let now = self.time_of_day();
+        self.roll.served(seat, now);
         match standing {
             Standing::Again => self.seats.go_on(seat, self.stopwatch.now()),
             Standing::Waits => self.seats.rest(seat, self.stopwatch.now()),
@@ -295,8 +333,11 @@ impl<'a, 'b, 'c, H: Wait + Clock, E: Sink> Clients<Connection> for TcpClients<'a
         _tokens: Tokens<'_>,
         parting: Parting,
     ) {
+        let entrance = self.entrance;
+        let rt = entrance.arrivals.rt;
         if let Some(seat) = seat {
             self.seats.leave(seat);
+            self.roll.leave(rt, seat);
         }
         self.clients = self.clients.saturating_sub(1);
         self.entrance.arrivals.leaves();

@@ -5,5 +5,6 @@ pub mod NameLemmas
 pub mod AskedLemmas
 pub mod TextLemmas
 pub mod EndLemmas
+pub mod FilterLemmas
 pub mod GlobLemmas
 pub mod PlaceLemmas

@@ -18,6 +18,10 @@ use Rattle.redis_commands.specs.declared.command.WalkCommand.TheVariants as walk
 use Rattle.redis_commands.specs.declared.command.ConnectionCommand.{ConnectionCommand}
 use Rattle.redis_commands.specs.declared.command.ConnectionCommand.TheVariants as connection
 use Rattle.redis_commands.specs.declared.command.LastSave.{LastSave}
+use Rattle.redis_commands.specs.declared.command.ClientFilter.{ClientFilter}
+use Rattle.redis_commands.specs.declared.command.ClientsCommand.{ClientsCommand}
+use Rattle.redis_commands.specs.declared.command.ClientsCommand.TheVariants as clients
+use Rattle.redis_commands.specs.declared.command.SlowlogCommand.{SlowlogCommand}
 use Rattle.redis_commands.specs.declared.command.ServerCommand.{ServerCommand}
 use Rattle.redis_commands.specs.declared.command.ServerCommand.TheVariants as server
 use Rattle.redis_commands.specs.declared.command.ProgramCommand.{ProgramCommand}
@@ -77,13 +81,31 @@ pub data ConnectionAsked : Type 0 where
   ClientId : ConnectionAsked
   ClientName : ConnectionAsked
   SetClientName : List ℕ → ConnectionAsked
-  SetClientInfo : ConnectionAsked
-  ClientList : ConnectionAsked
+  SetClientInfo : List ℕ → List ℕ → ConnectionAsked
   Commands : ConnectionAsked
   CommandCount : ConnectionAsked
   CommandDocs : ConnectionAsked
   Config : List (List ℕ) → ConnectionAsked
   Reset : ConnectionAsked
+
+-- which clients are meant: those of this number, this address and the one that they came to, if they are given, and of the one type; the one
+-- who asks may be spared
+pub record Filter : Type 0 where
+  pub number : Option ℕ
+  pub address : Option (List ℕ)
+  pub local_address : Option (List ℕ)
+  pub is_normal : Bool
+  pub spares_own : Bool
+
+-- what is asked of the clients: a list of all, of none, of those with these numbers, the client itself, to let go the one
+-- with this address, or those that are meant
+pub data ClientsAsked : Type 0 where
+  ListAll : ClientsAsked
+  Nobody : ClientsAsked
+  Named : List (List ℕ) → ClientsAsked
+  Own : ClientsAsked
+  KillAt : List ℕ → ClientsAsked
+  Kill : Filter → ClientsAsked
 
 -- what is asked of the server: of `Info` the sections that are named
 pub data ServerAsked : Type 0 where
@@ -92,6 +114,8 @@ pub data ServerAsked : Type 0 where
   SaveLater : ServerAsked
   LastSaved : ServerAsked
   Shutdown : LastSave → ServerAsked
+  Clients : ClientsAsked → ServerAsked
+  Slowlog : SlowlogCommand → ServerAsked
 
 -- what is asked of programs: a text, digests, or a digest or a text with a key and arguments
 pub data ProgramAsked : Type 0 where
@@ -114,6 +138,7 @@ pub data Asked : Type 0 where
 pub data Fault : Type 0 where
   UnknownCommand : List ℕ → List (List ℕ) → Fault
   UnknownSub : Parent → List ℕ → Fault
+  WrongSub : Parent → List ℕ → Fault
   WrongCount : Name → Fault
   WrongSubCount : Sub → Fault
   Syntax : Fault
@@ -141,6 +166,11 @@ pub data Fault : Type 0 where
   ScriptShape : Fault
   NoScript : Fault
   NoDebug : Fault
+  ClientType : List ℕ → Fault
+  NoUser : List ℕ → Fault
+  ClientNumber : Fault
+  ListedNumber : Fault
+  SlowlogCount : Fault
   WebRequest : Fault
 
 -- ---- how the code shows them: the bytes are borrowed
@@ -193,13 +223,29 @@ connection_by (connection.AuthDefault password) = AuthDefault password.now
 connection_by connection.ClientId = ClientId
 connection_by connection.ClientName = ClientName
 connection_by (connection.SetClientName name) = SetClientName name.now
-connection_by connection.SetClientInfo = SetClientInfo
-connection_by connection.ClientList = ClientList
+connection_by (connection.SetClientInfo attribute value) = SetClientInfo attribute.now value.now
 connection_by connection.Commands = Commands
 connection_by connection.CommandCount = CommandCount
 connection_by connection.CommandDocs = CommandDocs
 connection_by (connection.Config parameters) = Config (texts parameters.now)
 connection_by connection.Reset = Reset
+
+abbrev pub filter_view : ClientFilter → Filter
+filter_view filter = record {
+  number = filter.number;
+  address = text filter.address;
+  local_address = text filter.local_address;
+  is_normal = filter.is_normal;
+  spares_own = filter.spares_own;
+}
+
+abbrev pub clients_by : ClientsCommand → ClientsAsked
+clients_by clients.List = ListAll
+clients_by clients.Nobody = Nobody
+clients_by (clients.Named numbers) = Named (texts numbers.now)
+clients_by clients.Own = Own
+clients_by (clients.KillAt address) = KillAt address.now
+clients_by (clients.Kill filter) = Kill (filter_view filter)
 
 abbrev pub server_by : ServerCommand → ServerAsked
 server_by (server.Info sections) = Info (texts sections.now)
@@ -207,6 +253,8 @@ server_by server.Save = Save
 server_by server.SaveLater = SaveLater
 server_by server.LastSaved = LastSaved
 server_by (server.Shutdown save) = Shutdown save
+server_by (server.Clients asked) = Clients (clients_by asked)
+server_by (server.Slowlog asked) = Slowlog asked
 
 abbrev pub program_by : ProgramCommand → ProgramAsked
 program_by (program.Load script) = Load script.now
@@ -226,6 +274,7 @@ asked_by (command.Program program) = Program (program_by program)
 abbrev pub fault_by : CommandFault → Fault
 fault_by (fault.UnknownCommand name args) = UnknownCommand name.now (texts args.now)
 fault_by (fault.UnknownSub parent word) = UnknownSub parent word.now
+fault_by (fault.WrongSub parent word) = WrongSub parent word.now
 fault_by (fault.WrongCount name) = WrongCount name
 fault_by (fault.WrongSubCount sub) = WrongSubCount sub
 fault_by fault.Syntax = Syntax
@@ -253,6 +302,11 @@ fault_by fault.TooManyKeys = TooManyKeys
 fault_by fault.ScriptShape = ScriptShape
 fault_by fault.NoScript = NoScript
 fault_by fault.NoDebug = NoDebug
+fault_by (fault.ClientType word) = ClientType word.now
+fault_by (fault.NoUser user) = NoUser user.now
+fault_by fault.ClientNumber = ClientNumber
+fault_by fault.ListedNumber = ListedNumber
+fault_by fault.SlowlogCount = SlowlogCount
 fault_by fault.WebRequest = WebRequest
 
 -- what was read of words: a command, or a fault

@@ -1,3 +1,4 @@
+pub mod Clients
 pub mod Names
 pub mod Numbers
 pub mod Commands

@@ -18,9 +18,9 @@ use Rattle.redis_commands.specs.declared.name.ServerName.TheVariants as s
 use Rattle.redis_commands.specs.declared.name.ProgramName.{ProgramName}
 use Rattle.redis_commands.specs.declared.name.ProgramName.TheVariants as p
 use Rattle.redis_commands.specs.declared.name.Parent.{Parent}
-use Rattle.redis_commands.specs.declared.name.Parent.TheVariants.{Client, Command, Config, Script}
+use Rattle.redis_commands.specs.declared.name.Parent.TheVariants.{Client, Command, Config, Script, Slowlog}
 use Rattle.redis_commands.specs.declared.name.Sub.{Sub}
-use Rattle.redis_commands.specs.declared.name.Sub.TheVariants.{ClientId, ClientGetName, ClientSetName, ClientSetInfo, ClientList, ClientInfo, CommandCount, CommandDocs, ConfigGet, ScriptLoad, ScriptExists}
+use Rattle.redis_commands.specs.declared.name.Sub.TheVariants.{ClientId, ClientGetName, ClientSetName, ClientSetInfo, ClientList, ClientInfo, ClientKill, CommandCount, CommandDocs, ConfigGet, ScriptLoad, ScriptExists, SlowlogGet, SlowlogLen, SlowlogReset, SlowlogHelp}
 
 -- ---- names, as error texts have them
 
@@ -96,12 +96,14 @@ parent_text Client = codes "client"
 parent_text Command = codes "command"
 parent_text Config = codes "config"
 parent_text Script = codes "script"
+parent_text Slowlog = codes "slowlog"
 
 abbrev pub parent_capitals : Parent → List ℕ
 parent_capitals Client = codes "CLIENT"
 parent_capitals Command = codes "COMMAND"
 parent_capitals Config = codes "CONFIG"
 parent_capitals Script = codes "SCRIPT"
+parent_capitals Slowlog = codes "SLOWLOG"
 
 abbrev pub name_text : Name → List ℕ
 name_text (Key name) = key_name_text name
@@ -119,11 +121,16 @@ sub_word ClientSetName = codes "setname"
 sub_word ClientSetInfo = codes "setinfo"
 sub_word ClientList = codes "list"
 sub_word ClientInfo = codes "info"
+sub_word ClientKill = codes "kill"
 sub_word CommandCount = codes "count"
 sub_word CommandDocs = codes "docs"
 sub_word ConfigGet = codes "get"
 sub_word ScriptLoad = codes "load"
 sub_word ScriptExists = codes "exists"
+sub_word SlowlogGet = codes "get"
+sub_word SlowlogLen = codes "len"
+sub_word SlowlogReset = codes "reset"
+sub_word SlowlogHelp = codes "help"
 
 abbrev pub parent_of : Sub → Parent
 parent_of ClientId = Client
@@ -132,11 +139,16 @@ parent_of ClientSetName = Client
 parent_of ClientSetInfo = Client
 parent_of ClientList = Client
 parent_of ClientInfo = Client
+parent_of ClientKill = Client
 parent_of CommandCount = Command
 parent_of CommandDocs = Command
 parent_of ConfigGet = Config
 parent_of ScriptLoad = Script
 parent_of ScriptExists = Script
+parent_of SlowlogGet = Slowlog
+parent_of SlowlogLen = Slowlog
+parent_of SlowlogReset = Slowlog
+parent_of SlowlogHelp = Slowlog
 
 -- ---- how many arguments come after the name
 
@@ -234,11 +246,16 @@ sub_arity ClientSetName = Exactly 1
 sub_arity ClientSetInfo = Exactly 2
 sub_arity ClientList = AtLeast 0
 sub_arity ClientInfo = Exactly 0
+sub_arity ClientKill = AtLeast 1
 sub_arity CommandCount = Exactly 0
 sub_arity CommandDocs = AtLeast 0
 sub_arity ConfigGet = AtLeast 1
 sub_arity ScriptLoad = Exactly 1
 sub_arity ScriptExists = AtLeast 1
+sub_arity SlowlogGet = AtLeast 0
+sub_arity SlowlogLen = Exactly 0
+sub_arity SlowlogReset = Exactly 0
+sub_arity SlowlogHelp = Exactly 0
 
 abbrev pub is_allowed : Arity → ℕ → Bool
 is_allowed (Exactly n) count = nat_eq count n
@@ -258,7 +275,7 @@ all_names =
     ++ map Connection (c.Ping ∷ c.Echo ∷ c.Quit ∷ c.Select ∷ c.Hello ∷ c.Auth ∷ c.Reset ∷ [])
     ++ map Server (s.Info ∷ s.Save ∷ s.BgSave ∷ s.LastSave ∷ s.Shutdown ∷ s.Debug ∷ [])
     ++ map Program (p.Eval ∷ p.EvalSha ∷ [])
-    ++ map A_parent (Client ∷ Command ∷ Config ∷ Script ∷ [])
+    ++ map A_parent (Client ∷ Command ∷ Config ∷ Script ∷ Slowlog ∷ [])
 
 abbrev pub first_named : List Name → List ℕ → Option Name
 first_named names word = find (λ name. str_eq_ignore_ascii_case (name_text name) word) names
@@ -271,10 +288,11 @@ abbrev pub names_of_length : ℕ → List Name
 names_of_length n = filter (λ name. nat_eq n (length (name_text name))) all_names
 
 abbrev pub subs_of : Parent → List Sub
-subs_of Client = ClientId ∷ ClientGetName ∷ ClientSetName ∷ ClientSetInfo ∷ ClientList ∷ ClientInfo ∷ []
+subs_of Client = ClientId ∷ ClientGetName ∷ ClientSetName ∷ ClientSetInfo ∷ ClientList ∷ ClientInfo ∷ ClientKill ∷ []
 subs_of Command = CommandCount ∷ CommandDocs ∷ []
 subs_of Config = ConfigGet ∷ []
 subs_of Script = ScriptLoad ∷ ScriptExists ∷ []
+subs_of Slowlog = SlowlogGet ∷ SlowlogLen ∷ SlowlogReset ∷ SlowlogHelp ∷ []
 
 abbrev pub first_sub : List Sub → List ℕ → Option Sub
 first_sub subs word = find (λ sub. str_eq_ignore_ascii_case (sub_word sub) word) subs

@@ -34,12 +34,15 @@ use Rattle.redis_commands.specs.Words.{word, is, given, number, number_from_0}
 use Rattle.redis_commands.specs.Deadlines.{deadline, deadline_above_0, rule_of}
 use Rattle.redis_commands.specs.Options.{set_options, lifetime, scan_options, short_name, client_name, is_default, hello_options}
 use Rattle.redis_commands.specs.Options.Term.{Same, Endless}
+use Rattle.redis_commands.specs.Clients.{kill, list, slow_get}
+use Rattle.redis_commands.specs.Commands.ClientsAsked.{Own}
+use Rattle.redis_commands.specs.declared.command.SlowlogCommand.TheVariants as slow
 use Rattle.redis_commands.specs.Commands.{Asked, Act, WalkAsked, ConnectionAsked, ServerAsked, ProgramAsked, Fault}
 use Rattle.redis_commands.specs.Commands.Asked.{OnKey, OnKeys, SetEach, Walk, Connection, Server, Program}
 use Rattle.redis_commands.specs.Commands.Act.{Get, Set, SetIfAbsent, GetAndSet, GetAndDelete, Length, TypeName, GetAndExpire, Expire, Persist, TimeLeft, Add, Append, GetRange, SetRange, DeleteIfEqual}
 use Rattle.redis_commands.specs.Commands.WalkAsked.{CountAll, Scan, Keys, RandomKey, RemoveAll}
-use Rattle.redis_commands.specs.Commands.ConnectionAsked.{Ping, Echo, Quit, Select, Hello, Auth, AuthDefault, ClientId, ClientName, SetClientName, SetClientInfo, ClientList, Commands, CommandCount, CommandDocs, Config, Reset}
-use Rattle.redis_commands.specs.Commands.ServerAsked.{Info, Save, SaveLater, LastSaved, Shutdown}
+use Rattle.redis_commands.specs.Commands.ConnectionAsked.{Ping, Echo, Quit, Select, Hello, Auth, AuthDefault, ClientId, ClientName, SetClientName, SetClientInfo, Commands, CommandCount, CommandDocs, Config, Reset}
+use Rattle.redis_commands.specs.Commands.ServerAsked.{Info, Save, SaveLater, LastSaved, Shutdown, Clients, Slowlog}
 use Rattle.redis_commands.specs.Commands.ProgramAsked.{Load, Exists, Call, Eval}
 use Rattle.redis_commands.specs.Commands.Condition.{Always, IfEqual}
 use Rattle.redis_commands.specs.Commands.Fault.{UnknownCommand, UnknownSub, WrongCount, WrongSubCount, Syntax, DecrementOverflow, OffsetOutOfRange, LongKey, LongValue, BadCursor, BadIndex, WideIndex, BadVersion, NoProtocol, WrongPassword, NotAuthenticated, NegativeKeys, TooManyKeys, ScriptShape, NoScript, NoDebug, WebRequest}
@@ -275,26 +278,31 @@ program_of p.EvalSha args =
 
 -- ---- commands whose first argument names what they do
 
-abbrev pub asked_of_sub : Sub → List (List ℕ) → Result Asked Fault
-asked_of_sub s.ClientId args = Ok (Connection ClientId)
-asked_of_sub s.ClientGetName args = Ok (Connection ClientName)
-asked_of_sub s.ClientSetName args = given (client_name (word 0 args)) (λ name. Ok (Connection (SetClientName name)))
-asked_of_sub s.ClientSetInfo args = Ok (Connection SetClientInfo)
-asked_of_sub s.ClientList [] = Ok (Connection ClientList)
-asked_of_sub s.ClientList (option ∷ options) = Err Syntax
-asked_of_sub s.ClientInfo args = Ok (Connection ClientList)
-asked_of_sub s.CommandCount args = Ok (Connection CommandCount)
-asked_of_sub s.CommandDocs args = Ok (Connection CommandDocs)
-asked_of_sub s.ConfigGet args = Ok (Connection (Config args))
-asked_of_sub s.ScriptLoad args = Ok (Program (Load (word 0 args)))
-asked_of_sub s.ScriptExists args = Ok (Program (Exists args))
+-- by the word that named it
+abbrev pub asked_of_sub : Sub → List ℕ → List (List ℕ) → Result Asked Fault
+asked_of_sub s.ClientId first args = Ok (Connection ClientId)
+asked_of_sub s.ClientGetName first args = Ok (Connection ClientName)
+asked_of_sub s.ClientSetName first args = given (client_name (word 0 args)) (λ name. Ok (Connection (SetClientName name)))
+asked_of_sub s.ClientSetInfo first args = Ok (Connection (SetClientInfo (word 0 args) (word 1 args)))
+asked_of_sub s.ClientList first args = given (list args) (λ asked. Ok (Server (Clients asked)))
+asked_of_sub s.ClientInfo first args = Ok (Server (Clients Own))
+asked_of_sub s.ClientKill first args = given (kill args) (λ asked. Ok (Server (Clients asked)))
+asked_of_sub s.CommandCount first args = Ok (Connection CommandCount)
+asked_of_sub s.CommandDocs first args = Ok (Connection CommandDocs)
+asked_of_sub s.ConfigGet first args = Ok (Connection (Config args))
+asked_of_sub s.ScriptLoad first args = Ok (Program (Load (word 0 args)))
+asked_of_sub s.ScriptExists first args = Ok (Program (Exists args))
+asked_of_sub s.SlowlogGet first args = given (slow_get first args) (λ asked. Ok (Server (Slowlog asked)))
+asked_of_sub s.SlowlogLen first args = Ok (Server (Slowlog slow.Length))
+asked_of_sub s.SlowlogReset first args = Ok (Server (Slowlog slow.Reset))
+asked_of_sub s.SlowlogHelp first args = Ok (Server (Slowlog slow.Help))
 
 -- COMMAND may stand alone
 abbrev pub asked_of_parent : Parent → List (List ℕ) → Result Asked Fault
 asked_of_parent parent [] = Ok (Connection Commands)
 asked_of_parent parent (first ∷ args) = elim (sub_named parent first) [
   | None ↦ Err (UnknownSub parent first)
-  | Some sub ↦ if is_allowed (sub_arity sub) (length args) then asked_of_sub sub args else Err (WrongSubCount sub)
+  | Some sub ↦ if is_allowed (sub_arity sub) (length args) then asked_of_sub sub first args else Err (WrongSubCount sub)
 ]
 
 -- ---- all commands

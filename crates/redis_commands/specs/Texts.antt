@@ -3,7 +3,7 @@ use Rattle.std.specs.Prelude.{ℕ, Bool, ◌+◌, ◌-◌, ◌||◌, List, [], �
 use Rattle.std.specs.List.{list_all}
 use Rattle.redis_commands.specs.Names.{name_text, sub_word, parent_of, parent_text, parent_capitals}
 use Rattle.redis_commands.specs.Commands.{Fault}
-use Rattle.redis_commands.specs.Commands.Fault.{UnknownCommand, UnknownSub, WrongCount, WrongSubCount, Syntax, NotAnInteger, DecrementOverflow, OffsetOutOfRange, LongKey, LongValue, BadExpire, ExpireOption, NxWithOthers, GtWithLt, BadCursor, BadIndex, WideIndex, BadVersion, NoProtocol, HelloOption, BadClientName, LongClientName, WrongPassword, NotAuthenticated, NegativeKeys, TooManyKeys, ScriptShape, NoScript, NoDebug, WebRequest}
+use Rattle.redis_commands.specs.Commands.Fault.{UnknownCommand, UnknownSub, WrongCount, WrongSubCount, Syntax, NotAnInteger, DecrementOverflow, OffsetOutOfRange, LongKey, LongValue, BadExpire, ExpireOption, NxWithOthers, GtWithLt, BadCursor, BadIndex, WideIndex, BadVersion, NoProtocol, HelloOption, BadClientName, LongClientName, WrongPassword, NotAuthenticated, NegativeKeys, TooManyKeys, ScriptShape, NoScript, NoDebug, WebRequest, WrongSub, ClientType, NoUser, ClientNumber, ListedNumber, SlowlogCount}
 
 -- up to the first byte 0
 abbrev pub until_0 : List ℕ → List ℕ
@@ -44,6 +44,8 @@ fault_text (UnknownCommand name args) =
     codes "ERR unknown command '" ++ shown 128 name ++ codes "', with args beginning with: " ++ shown_args 0 args
 fault_text (UnknownSub parent word) =
     codes "ERR unknown subcommand '" ++ shown 128 word ++ codes "'. Try " ++ parent_capitals parent ++ codes " HELP."
+fault_text (WrongSub parent word) =
+    codes "ERR unknown subcommand or wrong number of arguments for '" ++ shown 128 word ++ codes "'. Try " ++ parent_capitals parent ++ codes " HELP."
 fault_text (WrongCount name) = wrong_count (name_text name)
 fault_text (WrongSubCount sub) = wrong_count (parent_text (parent_of sub) ++ codes "|" ++ sub_word sub)
 fault_text Syntax = codes "ERR syntax error"
@@ -71,6 +73,11 @@ fault_text TooManyKeys = codes "ERR Number of keys can't be greater than number 
 fault_text ScriptShape = codes "ERR not served: a script is called with one key"
 fault_text NoScript = codes "NOSCRIPT No matching script. Please use EVAL."
 fault_text NoDebug = codes "ERR DEBUG command not allowed."
+fault_text (ClientType word) = codes "ERR Unknown client type '" ++ shown 128 word ++ codes "'"
+fault_text (NoUser user) = codes "ERR No such user '" ++ shown 128 user ++ codes "'"
+fault_text ClientNumber = codes "ERR client-id should be greater than 0"
+fault_text ListedNumber = codes "ERR Invalid client ID"
+fault_text SlowlogCount = codes "ERR count should be greater than or equal to -1"
 fault_text WebRequest = []
 
 -- the text shows nothing of the words
@@ -82,4 +89,7 @@ IsFixed (WrongSubCount sub) = ⊥
 IsFixed (BadExpire name) = ⊥
 IsFixed (ExpireOption option) = ⊥
 IsFixed (HelloOption option) = ⊥
+IsFixed (WrongSub parent word) = ⊥
+IsFixed (ClientType word) = ⊥
+IsFixed (NoUser user) = ⊥
 IsFixed fault = Unit {0}

@@ -1,14 +1,19 @@
 //! Words, and what they ask for.
 ghost use Rattle.std.specs.Prelude.{◌≡◌, ◌≤◌, true, All, IfOk, length, if◌then◌else◌};
 ghost use Rattle.redis_commands.specs.Names.{walk_arity, connection_arity, sub_arity, arity_of, is_allowed};
-ghost use Rattle.redis_commands.specs.Commands.{answer_by, fault_by, asked_by, walk_by, connection_by, server_by, program_by, text, texts};
+ghost use Rattle.redis_commands.specs.Commands.{answer_by, fault_by, asked_by, clients_by, walk_by, connection_by, server_by, program_by, text, texts};
 ghost use Rattle.redis_commands.specs.Commands.Fault.{UnknownCommand, WebRequest};
-ghost use Rattle.redis_commands.specs.Reading.{read_by, natural_by, call_by};
+ghost use Rattle.redis_commands.specs.Commands.Asked.{Server};
+ghost use Rattle.redis_commands.specs.Commands.ServerAsked.{Clients, Slowlog};
+ghost use Rattle.redis_commands.specs.Words.{given};
+ghost use Rattle.redis_commands.specs.Reading.{read_by, natural_by, same_by, call_by};
 ghost use Rattle.redis_commands.specs.Table.{cursor_of, flush, scan, walk_of, hello_as, hello, auth, select, connection_of, save_later, last_save, shutdown, server_of, has_long_value, call_with, program_of, asked_of_sub, asked_of_parent, asked_as, asked_of, is_web, is_open, closed_parent, closed_server, asked_if_open, asked_before_auth};
 ghost use Rattle.redis_commands.specs.Limits.{IsWithinLimits, IsOfConnection, IsConnectionWithin, IsProgramWithin, IsKey, IsValue};
 
+use crate::clients::{kill, list, slow_get};
 use crate::command::{
-    Command, ConnectionCommand, LastSave, ProgramCommand, ServerCommand, WalkCommand,
+    ClientsCommand, Command, ConnectionCommand, LastSave, ProgramCommand, ServerCommand,
+    SlowlogCommand, WalkCommand,
 };
 use crate::fault::CommandFault;
 use crate::keyed::{Answer, key_command, keys_command, word};
@@ -307,10 +312,24 @@ fn program_command<'a>(
     }
 }
 
-/// Returns what the arguments after the word that names it ask for.
-fn sub_command<'a>(sub: Sub, args: &'a [&'a [u8]]) -> Answer<'a>
+/// The same, of the server's clients.
+fn clients_command<'a>(asked: Result<ClientsCommand<'a>, CommandFault<'a>>) -> Answer<'a>
+    ensures { answer_by result ≡ given (read_by clients_by asked.entry) (λ asked. Ok (Server (Clients asked))) }
+{
+    Ok(Command::Server(ServerCommand::Clients(asked?)))
+}
+
+/// The same, of the requests that took long.
+fn slowlog_command<'a>(asked: Result<SlowlogCommand, CommandFault<'a>>) -> Answer<'a>
+    ensures { answer_by result ≡ given (same_by asked.entry) (λ asked. Ok (Server (Slowlog asked))) }
+{
+    Ok(Command::Server(ServerCommand::Slowlog(asked?)))
+}
+
+/// Returns what the arguments after this word, which names it, ask for.
+fn sub_command<'a>(sub: Sub, first: &'a [u8], args: &'a [&'a [u8]]) -> Answer<'a>
     requires { is_allowed (sub_arity sub) (length args.now) ≡ true }
-    ensures asked { answer_by result ≡ asked_of_sub sub (texts args.now) }
+    ensures asked { answer_by result ≡ asked_of_sub sub first.now (texts args.now) }
     ensures limits { IfOk result (λ c. IsWithinLimits (asked_by c)) }
 {
     let command = match sub {
@@ -321,14 +340,17 @@ fn sub_command<'a>(sub: Sub, args: &'a [&'a [u8]]) -> Answer<'a>
         Sub::ClientId => ConnectionCommand::ClientId,
         Sub::ClientGetName => ConnectionCommand::ClientName,
         Sub::ClientSetName => ConnectionCommand::SetClientName(client_name(word(args, 0))?),
-        Sub::ClientSetInfo => ConnectionCommand::SetClientInfo,
-        Sub::ClientList => {
-            if !args.is_empty() {
-                return Err(CommandFault::Syntax);
-            }
-            ConnectionCommand::ClientList
-        }
-        Sub::ClientInfo => ConnectionCommand::ClientList,
+        Sub::ClientSetInfo => ConnectionCommand::SetClientInfo {
+            attribute: word(args, 0),
+            value: word(args, 1),
+        },
+        Sub::ClientList => return clients_command(list(args)),
+        Sub::ClientInfo => return clients_command(Ok(ClientsCommand::Own)),
+        Sub::ClientKill => return clients_command(kill(args)),
+        Sub::SlowlogGet => return slowlog_command(slow_get(first, args)),
+        Sub::SlowlogLen => return slowlog_command(Ok(SlowlogCommand::Length)),
+        Sub::SlowlogReset => return slowlog_command(Ok(SlowlogCommand::Reset)),
+        Sub::SlowlogHelp => return slowlog_command(Ok(SlowlogCommand::Help)),
         Sub::CommandCount => ConnectionCommand::CommandCount,
         Sub::CommandDocs => ConnectionCommand::CommandDocs,
         Sub::ConfigGet => ConnectionCommand::Config { parameters: args },
@@ -353,7 +375,7 @@ fn parent_command<'a>(parent: Parent, args: &'a [&'a [u8]]) -> Answer<'a>
     if !sub.arity().allows(rest.len()) {
         return Err(CommandFault::WrongSubCount(sub));
     }
-    sub_command(sub, rest)
+    sub_command(sub, first, rest)
 }
 
 /// Returns what the arguments of the command of this name ask for, at the time `now`.
@@ -392,19 +414,31 @@ pub fn command_of<'a>(words: &'a [&'a [u8]], now: u64) -> Result<Command<'a>, Co
     ensures asked { answer_by result ≡ asked_of now (texts words.now) }
     ensures limits { IfOk result (λ c. IsWithinLimits (asked_by c)) }
 {
+    named_command_of(words, now).1
+}
+
+/// Returns what `command_of` returns, and the command that the words name, if they do.
+pub fn named_command_of<'a>(
+    words: &'a [&'a [u8]],
+    now: u64,
+) -> (Option<Name>, Result<Command<'a>, CommandFault<'a>>)
+    ensures asked { answer_by result.1 ≡ asked_of now (texts words.now) }
+    ensures limits { IfOk result.1 (λ c. IsWithinLimits (asked_by c)) }
+{
     let [first, args @ ..] = words else {
-        return Err(CommandFault::UnknownCommand {
+        let none = CommandFault::UnknownCommand {
             name: &[],
             args: &[],
-        });
+        };
+        return (None, Err(none));
     };
     let Some(name) = Name::named(first) else {
-        return Err(unknown(first, args));
+        return (None, Err(unknown(first, args)));
     };
     if !name.arity().allows(args.len()) {
-        return Err(CommandFault::WrongCount(name));
+        return (Some(name), Err(CommandFault::WrongCount(name)));
     }
-    command_as(name, now, args)
+    (Some(name), command_as(name, now, args))
 }
 
 /// Returns why a client that has not authenticated may not call a command whose first argument names what it does.

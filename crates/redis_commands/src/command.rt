@@ -188,10 +188,11 @@ pub enum ConnectionCommand<'a> {
     ClientName,
     /// `CLIENT SETNAME`; at most `NAME_BYTES` bytes, each from `!` to `~`. An empty name takes the name away.
     SetClientName(&'a [u8]),
-    /// `CLIENT SETINFO`
-    SetClientInfo,
-    /// `CLIENT LIST` and `CLIENT INFO`
-    ClientList,
+    /// `CLIENT SETINFO`; an attribute that isn't known is taken too.
+    SetClientInfo {
+        attribute: &'a [u8],
+        value: &'a [u8],
+    },
     /// `COMMAND`
     Commands,
     /// `COMMAND COUNT`
@@ -217,6 +218,51 @@ pub enum LastSave {
     Never,
 }
 
+/// Which clients `CLIENT KILL` is about: those that have all that is given.
+#[derive(Clone, Copy, Debug, PartialEq, Eq)]
+pub struct ClientFilter<'a> {
+    /// `ID`
+    pub number: Option<u64>,
+    /// `ADDR`
+    pub address: Option<&'a [u8]>,
+    /// `LADDR`
+    pub local_address: Option<&'a [u8]>,
+    /// No other `TYPE` than `normal` is asked for. Each client is of this type.
+    pub is_normal: bool,
+    /// `SKIPME`: the client that asks is spared.
+    pub spares_own: bool,
+}
+
+/// What is asked of the server's clients.
+#[derive(Clone, Copy, Debug, PartialEq, Eq)]
+pub enum ClientsCommand<'a> {
+    /// `CLIENT LIST`, alone or with the type `normal`.
+    List,
+    /// `CLIENT LIST` with another type: no client is of it.
+    Nobody,
+    /// `CLIENT LIST ID`. Each of the words is a number.
+    Named { numbers: &'a [&'a [u8]] },
+    /// `CLIENT INFO`
+    Own,
+    /// `CLIENT KILL` with an address.
+    KillAt { address: &'a [u8] },
+    /// `CLIENT KILL` with options.
+    Kill { filter: ClientFilter<'a> },
+}
+
+/// What is asked of the requests that took long.
+#[derive(Clone, Copy, Debug, PartialEq, Eq)]
+pub enum SlowlogCommand {
+    /// `SLOWLOG GET`: this many of the latest ones, or all.
+    Get { count: Option<u64> },
+    /// `SLOWLOG LEN`
+    Length,
+    /// `SLOWLOG RESET`
+    Reset,
+    /// `SLOWLOG HELP`
+    Help,
+}
+
 /// What is asked of the server.
 #[derive(Clone, Copy, Debug, PartialEq, Eq)]
 pub enum ServerCommand<'a> {
@@ -230,6 +276,10 @@ pub enum ServerCommand<'a> {
     LastSaved,
     /// `SHUTDOWN`
     Shutdown { save: LastSave },
+    /// `CLIENT LIST`, `CLIENT INFO` and `CLIENT KILL`
+    Clients(ClientsCommand<'a>),
+    /// `SLOWLOG`
+    Slowlog(SlowlogCommand),
 }
 
 /// What is asked of programs.

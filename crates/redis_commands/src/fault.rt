@@ -19,6 +19,11 @@ pub enum CommandFault<'a> {
         parent: Parent,
         word: &'a [u8],
     },
+    /// What the first argument names takes another number of arguments, as `SLOWLOG GET` says it.
+    WrongSub {
+        parent: Parent,
+        word: &'a [u8],
+    },
     /// This command takes another number of arguments.
     WrongCount(Name),
     /// The same, of a command whose first argument names what it does.
@@ -74,6 +79,16 @@ pub enum CommandFault<'a> {
     NoScript,
     /// `DEBUG`, which is not served.
     NoDebug,
+    /// `CLIENT LIST` or `CLIENT KILL` with a type that there is not.
+    ClientType(&'a [u8]),
+    /// `CLIENT KILL` with a user that there is not.
+    NoUser(&'a [u8]),
+    /// `CLIENT KILL` with a client's number that is no number above 0.
+    ClientNumber,
+    /// `CLIENT LIST` with a client's number that is no number.
+    ListedNumber,
+    /// `SLOWLOG GET` with a count that is no number from -1 on.
+    SlowlogCount,
     /// The name is `POST` or `HOST:`, as a browser sends it. Redis ends such a connection without a reply.
     WebRequest,
 }
@@ -92,6 +107,9 @@ impl CommandFault<'_> {
             CommandFault::BadExpire(name) => FaultText::bad_expire(*name),
             CommandFault::ExpireOption(option) => FaultText::expire_option(option),
             CommandFault::HelloOption(option) => FaultText::hello_option(option),
+            CommandFault::WrongSub { parent, word } => FaultText::wrong_sub(*parent, word),
+            CommandFault::ClientType(word) => FaultText::client_type(word),
+            CommandFault::NoUser(user) => FaultText::no_user(user),
             _ => FaultText::of(self.fixed_text()),
         }
     }
@@ -128,6 +146,9 @@ impl CommandFault<'_> {
             CommandFault::ScriptShape => "ERR not served: a script is called with one key",
             CommandFault::NoScript => "NOSCRIPT No matching script. Please use EVAL.",
             CommandFault::NoDebug => "ERR DEBUG command not allowed.",
+            CommandFault::ClientNumber => "ERR client-id should be greater than 0",
+            CommandFault::ListedNumber => "ERR Invalid client ID",
+            CommandFault::SlowlogCount => "ERR count should be greater than or equal to -1",
             _ => "",
         }
     }

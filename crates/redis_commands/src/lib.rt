@@ -9,21 +9,26 @@
 #![tactic(auto)]
 
 mod asking;
+mod clients;
 pub mod command;
 mod deadlines;
 pub mod fault;
 mod glob;
 mod keyed;
+mod kind;
 pub mod name;
 pub mod number;
 mod options;
 mod text;
 
-pub use asking::{command_before_auth, command_of};
+pub use asking::{command_before_auth, command_of, named_command_of};
 pub use command::{
-    Command, Condition, ConnectionCommand, ExpireRule, KeyAct, KeysAct, LastSave, Lifetime,
-    NAME_BYTES, ProgramCommand, ServerCommand, TimeForm, TimeUnit, WalkCommand,
+    ClientFilter, ClientsCommand, Command, Condition, ConnectionCommand, ExpireRule, KeyAct,
+    KeysAct, LastSave, Lifetime, NAME_BYTES, ProgramCommand, ServerCommand, SlowlogCommand,
+    TimeForm, TimeUnit, WalkCommand,
 };
 pub use fault::CommandFault;
 pub use glob::matches;
+pub use kind::{COMMAND_KINDS, kind_name, kind_of, name_of};
+pub use name::Name;
 pub use text::FaultText;

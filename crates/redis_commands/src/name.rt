@@ -136,6 +136,7 @@ pub enum Parent {
     Command,
     Config,
     Script,
+    Slowlog,
 }
 
 /// What the first argument of such a command names.
@@ -147,11 +148,16 @@ pub enum Sub {
     ClientSetInfo,
     ClientList,
     ClientInfo,
+    ClientKill,
     CommandCount,
     CommandDocs,
     ConfigGet,
     ScriptLoad,
     ScriptExists,
+    SlowlogGet,
+    SlowlogLen,
+    SlowlogReset,
+    SlowlogHelp,
 }
 
 impl KeyName {
@@ -331,6 +337,7 @@ impl Parent {
             Parent::Command => "command",
             Parent::Config => "config",
             Parent::Script => "script",
+            Parent::Slowlog => "slowlog",
         }
     }
 
@@ -343,6 +350,7 @@ impl Parent {
             Parent::Command => "COMMAND",
             Parent::Config => "CONFIG",
             Parent::Script => "SCRIPT",
+            Parent::Slowlog => "SLOWLOG",
         }
     }
 
@@ -367,10 +375,17 @@ impl Parent {
                 Sub::ClientSetInfo,
                 Sub::ClientList,
                 Sub::ClientInfo,
+                Sub::ClientKill,
             ],
             Parent::Command => &[Sub::CommandCount, Sub::CommandDocs],
             Parent::Config => &[Sub::ConfigGet],
             Parent::Script => &[Sub::ScriptLoad, Sub::ScriptExists],
+            Parent::Slowlog => &[
+                Sub::SlowlogGet,
+                Sub::SlowlogLen,
+                Sub::SlowlogReset,
+                Sub::SlowlogHelp,
+            ],
         }
     }
 
@@ -394,11 +409,16 @@ impl Sub {
             Sub::ClientSetInfo => "setinfo",
             Sub::ClientList => "list",
             Sub::ClientInfo => "info",
+            Sub::ClientKill => "kill",
             Sub::CommandCount => "count",
             Sub::CommandDocs => "docs",
             Sub::ConfigGet => "get",
             Sub::ScriptLoad => "load",
             Sub::ScriptExists => "exists",
+            Sub::SlowlogGet => "get",
+            Sub::SlowlogLen => "len",
+            Sub::SlowlogReset => "reset",
+            Sub::SlowlogHelp => "help",
         }
     }
 
@@ -412,10 +432,14 @@ impl Sub {
             | Sub::ClientSetName
             | Sub::ClientSetInfo
             | Sub::ClientList
-            | Sub::ClientInfo => Parent::Client,
+            | Sub::ClientInfo
+            | Sub::ClientKill => Parent::Client,
             Sub::CommandCount | Sub::CommandDocs => Parent::Command,
             Sub::ConfigGet => Parent::Config,
             Sub::ScriptLoad | Sub::ScriptExists => Parent::Script,
+            Sub::SlowlogGet | Sub::SlowlogLen | Sub::SlowlogReset | Sub::SlowlogHelp => {
+                Parent::Slowlog
+            }
         }
     }
 
@@ -424,12 +448,17 @@ impl Sub {
         ensures { result ≡ sub_arity self }
     {
         match self {
-            Sub::ClientId | Sub::ClientGetName | Sub::ClientInfo | Sub::CommandCount =>
-                Arity::Exactly(0),
+            Sub::ClientId
+            | Sub::ClientGetName
+            | Sub::ClientInfo
+            | Sub::CommandCount
+            | Sub::SlowlogLen
+            | Sub::SlowlogReset
+            | Sub::SlowlogHelp => Arity::Exactly(0),
             Sub::ClientSetName | Sub::ScriptLoad => Arity::Exactly(1),
             Sub::ClientSetInfo => Arity::Exactly(2),
-            Sub::ClientList | Sub::CommandDocs => Arity::AtLeast(0),
-            Sub::ConfigGet | Sub::ScriptExists => Arity::AtLeast(1),
+            Sub::ClientList | Sub::CommandDocs | Sub::SlowlogGet => Arity::AtLeast(0),
+            Sub::ConfigGet | Sub::ScriptExists | Sub::ClientKill => Arity::AtLeast(1),
         }
     }
 }
@@ -560,13 +589,14 @@ static SIX: [Name; 17] = [
 ];
 
 /// The names of seven letters.
-static SEVEN: [Name; 6] = [
+static SEVEN: [Name; 7] = [
     Name::Key(KeyName::Pexpire),
     Name::Key(KeyName::DelIfEq),
     Name::Key(KeyName::Persist),
     Name::Walk(WalkName::FlushDb),
     Name::Program(ProgramName::EvalSha),
     Name::Parent(Parent::Command),
+    Name::Parent(Parent::Slowlog),
 ];
 
 /// The names of eight letters.

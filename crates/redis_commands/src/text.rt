@@ -2,7 +2,7 @@
 ghost use Rattle.std.specs.Prelude.{◌≡◌, ◌+◌, ◌≤◌, ◌++◌, length, codes};
 ghost use Rattle.redis_commands.specs.Names.{name_text, sub_word, parent_of, parent_text};
 ghost use Rattle.redis_commands.specs.Commands.{texts};
-ghost use Rattle.redis_commands.specs.Commands.Fault.{UnknownCommand, UnknownSub, WrongCount, WrongSubCount, BadExpire, ExpireOption, HelloOption};
+ghost use Rattle.redis_commands.specs.Commands.Fault.{UnknownCommand, UnknownSub, WrongCount, WrongSubCount, WrongSub, BadExpire, ExpireOption, HelloOption, ClientType, NoUser};
 ghost use Rattle.redis_commands.specs.Texts.{until_0, is_line_end, trimmed, blanked, shown, shown_args, fault_text};
 
 use crate::name::{Name, Parent, Sub};
@@ -122,6 +122,38 @@ impl FaultText {
         text.add_text("'. Try ");
         text.add_text(parent.capitals());
         text.add_text(" HELP.");
+        text
+    }
+
+    /// Makes the text of `WrongSub`.
+    pub(crate) fn wrong_sub(parent: Parent, word: &[u8]) -> FaultText
+        ensures { result ≡ fault_text (WrongSub parent word.now) }
+    {
+        let mut text = FaultText::of("ERR unknown subcommand or wrong number of arguments for '");
+        text.add_shown(SHOWN_BYTES, word);
+        text.add_text("'. Try ");
+        text.add_text(parent.capitals());
+        text.add_text(" HELP.");
+        text
+    }
+
+    /// Makes the text of `ClientType`.
+    pub(crate) fn client_type(word: &[u8]) -> FaultText
+        ensures { result ≡ fault_text (ClientType word.now) }
+    {
+        let mut text = FaultText::of("ERR Unknown client type '");
+        text.add_shown(SHOWN_BYTES, word);
+        text.add_text("'");
+        text
+    }
+
+    /// Makes the text of `NoUser`.
+    pub(crate) fn no_user(user: &[u8]) -> FaultText
+        ensures { result ≡ fault_text (NoUser user.now) }
+    {
+        let mut text = FaultText::of("ERR No such user '");
+        text.add_shown(SHOWN_BYTES, user);
+        text.add_text("'");
         text
     }
 

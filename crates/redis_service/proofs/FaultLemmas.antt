@@ -14,6 +14,12 @@ pub read_fault : (now : ℕ) (talk : TalkState) (old : PassState) (f : CommandFa
     → AnswersRead now talk old (Err (fault_by f)) (error_bytes (fault_text (fault_by f))) talk old
 read_fault now talk old (fault.UnknownCommand name args) other = (refl, refl, refl)
 read_fault now talk old (fault.UnknownSub parent word) other = (refl, refl, refl)
+read_fault now talk old (fault.WrongSub parent word) other = (refl, refl, refl)
+read_fault now talk old (fault.ClientType word) other = (refl, refl, refl)
+read_fault now talk old (fault.NoUser user) other = (refl, refl, refl)
+read_fault now talk old fault.ClientNumber other = (refl, refl, refl)
+read_fault now talk old fault.ListedNumber other = (refl, refl, refl)
+read_fault now talk old fault.SlowlogCount other = (refl, refl, refl)
 read_fault now talk old (fault.WrongCount name) other = (refl, refl, refl)
 read_fault now talk old (fault.WrongSubCount sub) other = (refl, refl, refl)
 read_fault now talk old fault.Syntax other = (refl, refl, refl)

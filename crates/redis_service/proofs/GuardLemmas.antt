@@ -4,7 +4,7 @@ use Rattle.std.proofs.lemmas.Slice.Eq.{bytes_eq-Decides}
 use Rattle.bin_stripes.specs.Passes.{PassState}
 use Rattle.redis_commands.specs.Commands.{Asked, ConnectionAsked, Fault}
 use Rattle.redis_commands.specs.Commands.Asked.{OnKey, OnKeys, SetEach, Walk, Connection, Server, Program}
-use Rattle.redis_commands.specs.Commands.ConnectionAsked.{Ping, Echo, Quit, Select, Hello, Auth, AuthDefault, ClientId, ClientName, SetClientName, SetClientInfo, ClientList, Commands, CommandCount, CommandDocs, Config, Reset}
+use Rattle.redis_commands.specs.Commands.ConnectionAsked.{Ping, Echo, Quit, Select, Hello, Auth, AuthDefault, ClientId, ClientName, SetClientName, SetClientInfo, Commands, CommandCount, CommandDocs, Config, Reset}
 use Rattle.redis_commands.specs.Limits.{IsOfConnection}
 use Rattle.redis_service.specs.declared.talk.Showing.{Showing}
 use Rattle.redis_service.specs.declared.talk.Showing.TheVariants.{Right, Wrong, Missing}
@@ -91,8 +91,7 @@ connection_keeps talk next old new (AuthDefault shown) written shut answers =
 connection_keeps talk next old new ClientId written shut (said, same, kept) = stays talk next talk old new None shut same kept
 connection_keeps talk next old new ClientName written shut (said, same, kept) = stays talk next talk old new None shut same kept
 connection_keeps talk next old new (SetClientName name) written shut renames = renames_keep talk next old new name _ written shut renames
-connection_keeps talk next old new SetClientInfo written shut (said, same, kept) = stays talk next talk old new None shut same kept
-connection_keeps talk next old new ClientList written shut (said, same, kept) = stays talk next talk old new None shut same kept
+connection_keeps talk next old new (SetClientInfo attribute value) written shut (said, same, kept) = stays talk next talk old new None shut same kept
 connection_keeps talk next old new Commands written shut (said, same, kept) = stays talk next talk old new None shut same kept
 connection_keeps talk next old new CommandCount written shut (said, same, kept) = stays talk next talk old new None shut same kept
 connection_keeps talk next old new CommandDocs written shut (said, same, kept) = stays talk next talk old new None shut same kept

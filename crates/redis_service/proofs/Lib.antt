@@ -1,4 +1,5 @@
 pub mod CallLemmas
+pub mod ClientLemmas
 pub mod ChangeLemmas
 pub mod TextLemmas
 pub mod SendLemmas

@@ -5,8 +5,8 @@ use Rattle.resp.specs.Replies.{simple_bytes, value_bytes, error_bytes, nothing_b
 use Rattle.redis_commands.specs.Commands.{ConnectionAsked}
 use Rattle.redis_commands.specs.Commands.Fault.{WrongPassword}
 use Rattle.redis_commands.specs.Texts.{fault_text}
-use Rattle.redis_commands.specs.Commands.ConnectionAsked.{Ping, Echo, Quit, Select, Hello, Auth, AuthDefault, ClientId, ClientName, SetClientName, SetClientInfo, ClientList, Commands, CommandCount, CommandDocs, Config, Reset}
-use Rattle.redis_service.specs.Server.{client_line, config_bytes}
+use Rattle.redis_commands.specs.Commands.ConnectionAsked.{Ping, Echo, Quit, Select, Hello, Auth, AuthDefault, ClientId, ClientName, SetClientName, SetClientInfo, Commands, CommandCount, CommandDocs, Config, Reset}
+use Rattle.redis_service.specs.Server.{config_bytes}
 use Rattle.redis_service.specs.States.{TalkState, renamed, let_in, reset, showing}
 use Rattle.redis_service.specs.declared.talk.Showing.{Showing}
 use Rattle.redis_service.specs.declared.talk.Showing.TheVariants.{Right, Wrong, Missing}
@@ -88,12 +88,10 @@ AnswersConnection talk old (AuthDefault shown) written next new = LetsIn (showin
 AnswersConnection talk old ClientId written next new = Says talk old (count_line talk.number) written next new
 AnswersConnection talk old ClientName written next new = Says talk old (name_line talk.name) written next new
 AnswersConnection talk old (SetClientName name) written next new = Renames talk old name ok_line written next new
-AnswersConnection talk old SetClientInfo written next new = Says talk old ok_line written next new
+AnswersConnection talk old (SetClientInfo attribute value) written next new = Says talk old ok_line written next new
 AnswersConnection talk old Commands written next new = Says talk old (array_head 0) written next new
 AnswersConnection talk old CommandCount written next new = Says talk old (count_line 0) written next new
 AnswersConnection talk old CommandDocs written next new = Says talk old (array_head 0) written next new
 AnswersConnection talk old Reset written next new =
     (written ≡ simple_bytes (codes "RESET")) × (next ≡ reset talk) × (new ≡ old)
-AnswersConnection talk old ClientList written next new =
-    SaysIfRoom (value_bytes (client_line talk.number talk.name)) written × (next ≡ talk) × (new ≡ old)
 AnswersConnection talk old (Config words) written next new = Says talk old (config_bytes words) written next new

@@ -10,6 +10,8 @@ pub mod States
 pub mod Answers
 pub mod Server
 pub mod Info
+pub mod Clients
+pub mod Slowlogs
 pub mod Saving
 pub mod Connections
 pub mod Walks

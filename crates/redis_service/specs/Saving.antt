@@ -8,9 +8,11 @@ use Rattle.server_state.specs.declared.saves.SaveFate.TheVariants.{Saved, Failed
 use Rattle.redis_commands.specs.declared.command.LastSave.{LastSave}
 use Rattle.redis_commands.specs.declared.command.LastSave.TheVariants.{Always}
 use Rattle.redis_commands.specs.Commands.{ServerAsked}
-use Rattle.redis_commands.specs.Commands.ServerAsked.{Info, Save, SaveLater, LastSaved, Shutdown}
+use Rattle.redis_commands.specs.Commands.ServerAsked.{Info, Save, SaveLater, LastSaved, Shutdown, Clients, Slowlog}
 use Rattle.redis_service.specs.declared.info.Info.{Info as Numbers}
 use Rattle.redis_service.specs.Info.{info_text}
+use Rattle.redis_service.specs.Clients.{AnswersClients}
+use Rattle.redis_service.specs.Slowlogs.{slowlog_line}
 use Rattle.redis_service.specs.States.{TalkState}
 use Rattle.redis_service.specs.Connections.{Says, SaysIfRoom}
 use Rattle.redis_service.specs.Texts.{ok_line, count_line}
@@ -48,3 +50,5 @@ AnswersServer talk old Save written next new = (fate : Option SaveFate) × Says 
 AnswersServer talk old SaveLater written next new = (keeps : Bool) × Says talk old (later_line keeps) written next new
 AnswersServer talk old LastSaved written next new = (seconds : ℕ) × Says talk old (count_line seconds) written next new
 AnswersServer talk old (Shutdown save) written next new = AnswersShutdown talk old save written next new
+AnswersServer talk old (Clients asked) written next new = AnswersClients talk asked written next × (new ≡ old)
+AnswersServer talk old (Slowlog asked) written next new = Says talk old (slowlog_line asked) written next new

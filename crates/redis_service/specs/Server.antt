@@ -1,5 +1,5 @@
 -- What the server tells of itself.
-use Rattle.std.specs.Prelude.{ℕ, ◌*◌, Bool, List, [], ◌∷◌, ◌++◌, flat_map, count_by, decimal, codes, Option, Some, None, is_some, if◌then◌else◌}
+use Rattle.std.specs.Prelude.{ℕ, ◌*◌, Bool, List, [], ◌∷◌, ◌++◌, flat_map, count_by, codes, Option, Some, None, is_some, if◌then◌else◌}
 use Rattle.std.specs.Str.{str_eq_ignore_ascii_case}
 use Rattle.resp.specs.Replies.{array_head}
 use Rattle.redis_service.specs.Texts.{text_of}
@@ -7,12 +7,6 @@ use Rattle.redis_service.specs.Texts.{text_of}
 -- texts, one after the other
 abbrev pub joined : List (List ℕ) → List ℕ
 joined texts = flat_map (λ text. text) texts
-
--- CLIENT LIST and CLIENT INFO: the line of the client itself
-abbrev pub client_line : ℕ → List ℕ → List ℕ
-client_line number name =
-    joined (codes "id=" ∷ decimal number ∷ codes " addr=?:0 laddr=?:0 fd=0 name=" ∷ name
-    ∷ codes " age=0 idle=0 flags=N db=0 sub=0 psub=0 ssub=0 multi=-1 cmd=client|list user=default redir=-1 resp=2\n" ∷ [])
 
 -- a word is this one, in any case
 abbrev pub is : List ℕ → List ℕ → Bool

@@ -2,19 +2,16 @@
 ghost use Rattle.std.specs.Prelude.{◌≡◌, ℕ, List, Some};
 ghost use Rattle.bin_stripes.specs.Passes.{PassState};
 ghost use Rattle.devices.specs.Devices.{CanWrite};
-ghost use Rattle.resp.specs.Replies.{value_bytes};
 ghost use Rattle.redis_commands.specs.Commands.{connection_by, text};
-ghost use Rattle.redis_service.specs.Connections.{AnswersConnection, AnswersHello, Greets, LetsIn, LetsInBy, Renames, SaysIfRoom, hello_bytes, name_line, ping_line, wrong_password_line};
+ghost use Rattle.redis_service.specs.Connections.{AnswersConnection, AnswersHello, Greets, LetsIn, LetsInBy, Renames, hello_bytes, name_line, ping_line, wrong_password_line};
 ghost use Rattle.redis_service.specs.Replied.{replied_bytes};
 ghost use Rattle.redis_service.specs.Sending.{Sends};
-ghost use Rattle.redis_service.specs.Server as server;
 ghost use Rattle.redis_service.specs.States.{showing};
 ghost use Rattle.redis_service.specs.Texts.{ok_line};
 
 use crate::reply::Replied;
-use crate::server::{client_line, put_settings};
+use crate::server::put_settings;
 use crate::talk::{RedisTalk, Showing};
-use bpf_model::NoMemory;
 use devices::{Failed, Sink};
 use redis_commands::{CommandFault, ConnectionCommand};
 use resp::{put_error, put_value};
@@ -184,18 +181,6 @@ fn ping<W: Sink>(word: Option<&[u8]>, sink: &mut W) -> Result<(), Failed>
     }
 }
 
-/// Says the line of the client.
-fn put_client<W: Sink>(alloc: Global, talk: &RedisTalk<'_>, sink: &mut W) -> Result<(), Failed>
-    requires { CanWrite (W.state sink.old) }
-    ensures { (written : List ℕ) × Sends result (W.state sink.old) (W.state sink.new) written
-        × SaysIfRoom (value_bytes (server.client_line talk.now.number talk.now.name)) written }
-{
-    match client_line(alloc, talk.number(), talk.name()) {
-        Ok(text) => put_value(sink, &text),
-        Err(NoMemory) => Replied::NoMemory.send(&[], sink),
-    }
-}
-
 /// Answers a command of the connection.
 pub fn answer_connection<W: Sink>(
     alloc: Global,
@@ -218,7 +203,7 @@ pub fn answer_connection<W: Sink>(
         ConnectionCommand::Select => Replied::Simple(b"OK").send(&[], sink),
         ConnectionCommand::Auth { password } => let_in_by(talk, password, sink),
         ConnectionCommand::AuthDefault { password } => let_in(talk, password, sink),
-        ConnectionCommand::SetClientInfo => Replied::Simple(b"OK").send(&[], sink),
+        ConnectionCommand::SetClientInfo { .. } => Replied::Simple(b"OK").send(&[], sink),
         ConnectionCommand::Commands => Replied::Array(0).send(&[], sink),
         ConnectionCommand::CommandDocs => Replied::Array(0).send(&[], sink),
         ConnectionCommand::CommandCount => Replied::Integer(0).send(&[], sink),
@@ -233,7 +218,6 @@ pub fn answer_connection<W: Sink>(
             talk.reset(alloc);
             Replied::Simple(b"RESET").send(&[], sink)
         }
-        ConnectionCommand::ClientList => put_client(alloc, talk, sink),
         ConnectionCommand::Config { parameters } => put_settings(parameters, sink),
     }
 }

@@ -15,6 +15,7 @@ ghost use Rattle.redis_service.specs.Stops.{Stops, AnswersAll, FailsAt, TellsLas
 ghost use Rattle.redis_service.specs.Talks.{AnswersPiece, BreaksPiece};
 
 use crate::calls::MapAt;
+use crate::clients::{answer_clients, tell_of};
 use crate::connection::answer_connection;
 use crate::keyed::answer_key;
 use crate::lines::NO_MEMORY_LINE;
@@ -25,6 +26,7 @@ use crate::reply::Replied;
 use crate::room::Room;
 use crate::saving::{later_line, numbers, put_info, save, save_later, save_line, shut_down};
 use crate::several::{count_each, count_of, get_each, put_each, remove_each};
+use crate::slowlogs::slowlog_line;
 use crate::talk::RedisTalk;
 use crate::walks::{Ground, answer_walk};
 use bin_stripes::{Pass, StripedMap};
@@ -32,7 +34,8 @@ use bumpalo::Bump;
 use devices::{Failed, Sink, write_all};
 use key_walks::count_all;
 use redis_commands::{
-    Command, CommandFault, KeyAct, KeysAct, ServerCommand, command_before_auth, command_of,
+    Command, CommandFault, KeyAct, KeysAct, Name, ServerCommand, command_before_auth, kind_of,
+    name_of, named_command_of,
 };
 use redis_scripts::Scripts;
 use resp::{Next, NextFault, put_error};
@@ -64,6 +67,8 @@ pub struct RedisDesk<'a, 's> {
     room: Room,
     /// The number of commands about the whole map so far.
     walks: u64,
+    /// The kind of the last command of this turn, by its number from 1 on.
+    noted: u64,
 }
 
 impl<'a, 's> Model for RedisDesk<'a, 's> {
@@ -133,8 +138,17 @@ fn refuse<W: Sink>(
     }
 }
 
-/// Reads the words of a client: what they ask for, or their fault.
+/// Returns the number by which the kind of a command is noted; 0 if the words name none.
+fn noted_kind(name: Option<Name>, words: &[&[u8]]) -> u64 {
+    match name {
+        Some(name) => (kind_of(name, words) as u64).wrapping_add(1),
+        None => 0,
+    }
+}
+
+/// Reads the words of a client: what they ask for, or their fault. Notes the kind of the command, if they name one.
 fn read<'w>(
+    noted: &mut u64,
     talk: &RedisTalk<'_>,
     words: &'w [&'w [u8]],
     now: u64,
@@ -144,8 +158,11 @@ fn read<'w>(
     ensures open { is_authenticated talk.now ≡ false → IfOk result (λ c. IsOfConnection (asked_by c)) }
 {
     if talk.is_authenticated() {
-        command_of(words, now)
+        let (name, command) = named_command_of(words, now);
+        *noted = noted_kind(name, words);
+        command
     } else {
+        *noted = noted_kind(name_of(words), words);
         command_before_auth(words)
     }
 }
@@ -174,6 +191,7 @@ impl<'a, 's> RedisDesk<'a, 's> {
             state,
             room: Room::new(),
             walks: 0,
+            noted: 0,
         }
     }
 
@@ -311,6 +329,12 @@ impl<'a, 's> RedisDesk<'a, 's> {
                 Replied::Count(seconds).send(&[], sink)
             }
             ServerCommand::Shutdown { save } => shut_down(server, talk, save, sink),
+            ServerCommand::Clients(command) => {
+                let number = talk.number();
+                server.clients().asks(moment.rt, number, self.noted);
+                answer_clients(moment, self.alloc, server.clients(), talk, &command, sink)
+            }
+            ServerCommand::Slowlog(command) => slowlog_line(command).send(&[], sink),
         }
     }
 
@@ -341,7 +365,11 @@ impl<'a, 's> RedisDesk<'a, 's> {
                 let at = self.at(moment.time);
                 put_each(moment.rt, &at, pass, &mut self.room, words).send(&[], sink)
             }
-            Command::Connection(command) => answer_connection(self.alloc, talk, &command, sink),
+            Command::Connection(command) => {
+                let sent = answer_connection(self.alloc, talk, &command, sink);
+                tell_of(moment.rt, self.state.server.clients(), talk, &command);
+                sent
+            }
             Command::Server(command) => self.answer_server(moment, pass, talk, &command, sink),
             Command::Walk(command) => {
                 self.state.counts.count_walk();
@@ -381,7 +409,7 @@ impl<'a, 's> RedisDesk<'a, 's> {
             × AnswersWords moment.now.time talk.old pass.old (texts words.now) written talk.new pass.new }
     {
         self.state.counts.count_command();
-        match read(talk, words, moment.time) {
+        match read(&mut self.noted, talk, words, moment.time) {
             Ok(command) => self.answer_command(moment, pass, talk, &command, sink),
             Err(fault) => refuse(talk, &fault, sink),
         }
@@ -439,7 +467,9 @@ impl<'a, 's> RedisDesk<'a, 's> {
     {
         let arena = Bump::new(self.alloc);
         let mut reader = Reader::new(self.alloc, bytes, &arena);
+        self.noted = 0;
         let fault = self.answer_all(moment, pass, talk, &mut reader, sink)?;
+        self.state.counts.note_command(self.noted);
         Ok((fault, reader.rest))
     }
 

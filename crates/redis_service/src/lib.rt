@@ -9,6 +9,7 @@
 
 mod calls;
 mod changes;
+mod clients;
 mod connection;
 mod deadlines;
 mod desk;
@@ -25,6 +26,7 @@ mod room;
 mod saving;
 mod server;
 mod several;
+mod slowlogs;
 mod sweeper;
 mod talk;
 mod telling;

@@ -5,12 +5,11 @@ ghost use Rattle.devices.specs.Devices.{CanWrite};
 ghost use Rattle.redis_commands.specs.Commands.{texts};
 ghost use Rattle.redis_service.specs.Replied.{replied_bytes};
 ghost use Rattle.redis_service.specs.Sending.{Sends};
-ghost use Rattle.redis_service.specs.Server.{joined, client_line, setting_of, is_setting, setting_bytes, config_bytes};
+ghost use Rattle.redis_service.specs.Server.{joined, setting_of, is_setting, setting_bytes, config_bytes};
 
 use crate::reply::Replied;
 use bpf_model::NoMemory;
 use devices::{Failed, Sink};
-use itoa::Buffer;
 use std::alloc::Global;
 
 /// Returns the texts, one after the other.
@@ -24,22 +23,6 @@ pub fn joined(alloc: Global, parts: &[&[u8]]) -> Result<Vec<u8>, NoMemory>
         };
     }
     Ok(text)
-}
-
-/// What the line of a client says between its number and its name.
-const CLIENT_MIDDLE: &[u8] = b" addr=?:0 laddr=?:0 fd=0 name=";
-
-/// What the line of a client says after its name.
-const CLIENT_TAIL: &[u8] =
-    b" age=0 idle=0 flags=N db=0 sub=0 psub=0 ssub=0 multi=-1 cmd=client|list user=default redir=-1 resp=2\n";
-
-/// Returns the line of the client with this number and name.
-pub fn client_line(alloc: Global, number: u64, name: &[u8]) -> Result<Vec<u8>, NoMemory>
-    ensures { IfOk result (λ text. text.items ≡ client_line number name.now) }
-{
-    let mut digits = Buffer::new();
-    let number = digits.format(number).as_bytes();
-    joined(alloc, &[b"id=", number, CLIENT_MIDDLE, name, CLIENT_TAIL])
 }
 
 /// Tests whether a word is this one, in any case.

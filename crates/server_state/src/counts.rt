@@ -95,6 +95,8 @@ pub struct WorkerCounts {
     expired: Counter,
     hits: Counter,
     misses: Counter,
+    /// What the commands of the last turn asked for last.
+    last_command: AtomicU64,
     apart: [u64; 16],
 }
 
@@ -112,6 +114,7 @@ impl WorkerCounts {
             expired: Counter::new(),
             hits: Counter::new(),
             misses: Counter::new(),
+            last_command: AtomicU64::new(0),
             apart: [0; 16],
         }
     }
@@ -166,6 +169,16 @@ impl WorkerCounts {
         } else {
             self.misses.add(1);
         }
+    }
+
+    /// A turn of commands ended, of which the last one that has a name asked for this, by a number of the one who notes it; 0: none has.
+    pub fn note_command(&self, command: u64) {
+        self.last_command.store(command, Ordering::SeqCst);
+    }
+
+    /// Returns what was noted last.
+    pub fn last_command(&self) -> u64 {
+        self.last_command.load(Ordering::SeqCst)
     }
 
     /// Returns what was counted so far.

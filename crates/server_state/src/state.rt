@@ -2,6 +2,7 @@
 ghost use Rattle.std.specs.Prelude.{◌≡◌, IfOk, None};
 ghost use Rattle.server_state.specs.Passwords.{lent};
 
+use crate::clients::ServerClients;
 use crate::counts::{Counts, WorkerCounts, sum};
 use crate::password::Password;
 use crate::saves::{SaveFate, Saves};
@@ -23,6 +24,7 @@ pub struct ServerState {
     /// What threads counted that are no workers.
     others: WorkerCounts,
     password: Option<Password>,
+    clients: ServerClients,
 }
 
 /// What one worker knows of its server, and where it counts.
@@ -61,6 +63,7 @@ impl ServerState {
             workers: all,
             others: WorkerCounts::new(),
             password: None,
+            clients: ServerClients::new(alloc, workers)?,
         })
     }
 
@@ -155,6 +158,11 @@ impl ServerState {
     /// Tests whether the server saves its map before it ends.
     pub fn saves_at_end(&self) -> bool {
         self.saves_at_end.load(Ordering::SeqCst)
+    }
+
+    /// Returns the table of the server's clients.
+    pub fn clients(&self) -> &ServerClients {
+        &self.clients
     }
 
     /// Returns where the worker of this number counts.

@@ -1,31 +1,18 @@
-use Rattle.std.proofs.Common.{rules, refl, ap, ◌∙◌, subst}
-use Rattle.stripe_rule.specs.Gains.{least}
+use Rattle.std.proofs.Common.{rules, refl, subst}
 use Rattle.stripe_rule.specs.Steps.{Extends}
-use Rattle.stripe_rule.proofs.CallLemmas.{least_has, carries_same, extends_self}
+use Rattle.stripe_rule.proofs.CallLemmas.{extends_self}
 use Rattle.bin_stripes.proofs.StepLemmas.{takes_since, looks_since}
 use Rattle.bin_stripes.proofs.steps.take_stripe.Goals as goal
-use Rattle.bin_stripes.proofs.steps.take_stripe.Goals.{else-may_try-via-then-may_try+else-try_take_stripe, else-may_try-via-else-may_try}
+use Rattle.bin_stripes.proofs.steps.take_stripe.Goals.{else-are_free-via-then-are_free+else-try_take_stripe, else-are_free-via-else-are_free}
 
-pub loop-init : goal.loop-init
-loop-init g c = let v = c.args.seat.now.me.0 in
-    (refl, refl, refl, subst (λ b. Extends v c.args.stripe b v) c.requires.pass.1 (extends_self v c.args.stripe))
-
-pub try_take_stripe-requires-clause-table : goal.try_take_stripe-requires-clause-table
-try_take_stripe-requires-clause-table g c = (c.requires.table.0, c.loop.invariant.0 ∙ c.requires.table.1)
-
-pub try_take_stripe-requires-clause-pass : goal.try_take_stripe-requires-clause-pass
-try_take_stripe-requires-clause-pass g c = let v = c.args.seat.now.me.0 in let w = c.loop.seat.me.0 in let e = c.loop.invariant.3 in
-    (least_has (least v.numbers) w.numbers (carries_same v w (least v.numbers) e.sets.numbers c.requires.pass.0), ap (λ p. p.held) e.sets.here)
-
-pub returns-then-try_take_stripe-clause-took : goal.returns-then-try_take_stripe-clause-took
-returns-then-try_take_stripe-clause-took g c = let inv = c.loop.invariant in
-    takes_since g.B.Bins.table g.B.NotedBins.noted c.args.table.now.table_id.slots c.args.stripe c.args.seat.now.me.0 c.loop.seat.me c.try_take_stripe.new.seat.me c.args.seat.now.me.1 inv.2 inv.3 (search rules)
-
-pub loop-preserved : goal.loop-preserved
-loop-preserved g c = let inv = c.loop.invariant in elim c.else-may_try.branch [
-  | else-may_try-via-then-may_try+else-try_take_stripe w ↦
-      (let same = w.try_take_stripe.ensures.same in
-      let l = looks_since g.B.Bins.table g.B.NotedBins.noted c.args.table.now.table_id.slots c.args.stripe c.args.seat.now.me.0 c.loop.seat.me w.try_take_stripe.new.seat.me c.args.seat.now.me.1 inv.2 inv.3 (search rules) in
-      rw w.seat-is (same.0 ∙ inv.0, same.1 ∙ inv.1, l.0, l.1))
-  | else-may_try-via-else-may_try w ↦ rw w.seat-is inv
-]
+-- a take after a lost one is a take
+pub returns-clause-took : goal.returns-clause-took
+returns-clause-took g c = let me = c.args.seat.now.me in let slots = c.args.table.now.table_id.slots in
+    let e = subst (λ b. Extends me.0 c.args.stripe b me.0) c.requires.pass.1 (extends_self me.0 c.args.stripe) in
+    elim c.else-are_free.branch [
+      | else-are_free-via-then-are_free+else-try_take_stripe w ↦
+          (let lost = w.try_take_stripe.new.seat.me in
+          let l = looks_since g.B.Bins.table g.B.NotedBins.noted slots c.args.stripe me.0 me lost me.1 refl e (search rules) in
+          takes_since g.B.Bins.table g.B.NotedBins.noted slots c.args.stripe me.0 lost c.wait_for_stripe.new.seat.me me.1 l.0 l.1 (rw w.seat-is at c.wait_for_stripe.ensures.took))
+      | else-are_free-via-else-are_free w ↦ rw w.seat-is at c.wait_for_stripe.ensures.took
+    ]

@@ -9,11 +9,11 @@ use Rattle.atomic_methods.specs.Plans.{outcome_by}
 use Rattle.atomic_methods.proofs.WalkLemmas.{walked_none, walked_given, walked_none_given}
 use Rattle.bulk_walks.proofs.SearchLemmas.{runs_on_all}
 use Rattle.bulk_walks.proofs.running.run_on_all.Goals as goal
-use Rattle.bulk_walks.proofs.running.run_on_all.Goals.{in-Ok-true+in_ok-push-in-Ok-true, in-Ok-false, in-Err}
+use Rattle.bulk_walks.proofs.running.run_on_all.Goals.{in-Ok-true+in_ok-keep-in-Ok-true, in-Ok-false, in-Err}
 
 pub loop-position-init : goal.loop-position-init
 loop-position-init c = record {
-  walked = walked_none ForEach c.args.program.now c.args.arg.now c.args.entries.now _ (c.reserve.ensures.same ∙ c.new-items.ensures);
+  walked = walked_none ForEach c.args.program.now c.args.arg.now c.args.entries.now _ c.new-items.ensures;
   bounded = omega arith;
 }
 
@@ -31,10 +31,10 @@ loop-position-preserved c =
     let told = subst (λ o. ComesTo checked (input_of entry.0 (Some entry.1) arg) o) offered.tells offered.comes_to in
     let comes = λ (r : Result Bool InputPart) (is : c.answer.result ≡ r). subst (λ (r : Result Bool InputPart). ComesTo checked (input_of entry.0 (Some entry.1) arg) (outcome_by r c.answer.new.bench.answer)) is told in
     elim c.match-answer.branch [
-      | in-Ok-true+in_ok-push-in-Ok-true w ↦ rw (w.items-is, w.unfit-is) (record {
+      | in-Ok-true+in_ok-keep-in-Ok-true w ↦ rw (w.items-is, w.unfit-is) (record {
         walked = walked_given ForEach checked arg es _ position _ before.walked lt entry c.get.ensures.entry c.answer.new.bench.answer _
             (comes (Ok true) (w.in-Ok-true.is ∙ ap Ok w.in-Ok-true.field-0-test))
-            (λ found is. w.in_ok-push-in-Ok-true.ensures.ok ∙ ap (λ (xs : List Entry). xs ++ (entry.0, w.as_slice.result.now) ∷ []) is ∙ ap (λ (answer : List ℕ). found ++ (entry.0, answer) ∷ []) w.as_slice.ensures.value);
+            (λ found is. w.in_ok-keep-in-Ok-true.ensures.ok ∙ ap (λ (xs : List Entry). xs ++ (entry.0, w.as_slice.result.now) ∷ []) is ∙ ap (λ (answer : List ℕ). found ++ (entry.0, answer) ∷ []) w.as_slice.ensures.value);
         bounded = omega (arith, before.bounded);
       })
       | in-Ok-false w ↦ rw (w.items-is, w.unfit-is) (record {

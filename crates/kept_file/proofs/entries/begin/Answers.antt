@@ -1,4 +1,4 @@
-use Rattle.std.proofs.Common.{[], refl}
+use Rattle.std.proofs.Common.{[]}
 use Rattle.sqlite.specs.Held.{state}
 use Rattle.kept_file.specs.declared.entries.TheConstants.{ENTRIES}
 use Rattle.kept_file.proofs.ReadLemmas.{entries_read, handed_none, reads_survive}

@@ -55,9 +55,6 @@ pub returns-in-Reset-clause-answers : goal.returns-in-Reset-clause-answers
 returns-in-Reset-clause-answers g c pass =
     (simple_bytes (codes "RESET"), sends_of c.send-in-Reset.result (g.W.Sink.state c.args.sink.now) (g.W.Sink.state c.send-in-Reset.new.sink) _ c.send-in-Reset.ensures.ok c.send-in-Reset.ensures.err, rw c.in-Reset.is (refl, c.reset.ensures, refl))
 
-pub returns-in-ClientList-clause-answers : goal.returns-in-ClientList-clause-answers
-returns-in-ClientList-clause-answers g c pass = let (w, sends, says) = c.put_client.ensures in (w, sends, rw c.in-ClientList.is (says, refl, refl))
-
 pub returns-in-Config-clause-answers : goal.returns-in-Config-clause-answers
 returns-in-Config-clause-answers g c pass = (config_bytes (texts c.in-Config.parameters.now), c.put_settings.ensures, rw c.in-Config.is (refl, refl, refl))
 

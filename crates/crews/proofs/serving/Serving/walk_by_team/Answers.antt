@@ -31,5 +31,5 @@ returns g c hello bytes =
       meets = walked_by_team (λ n before after reply. IsWalk c.args.kind n c.in-Ok.program.now (option_copied c.args.arg) before after reply) (λ n before after. AllWalked n MayScan before after)
           (keeping c.args.self.now kept) s.pass s.team.items kept s.map.now c.replace-team.result.items c.told-team.result.passes.items c.walk_map-team.result.0.passes.items c.heard.result.items
           c.heard.new.pass c.walk_map-team.result.1 _ (sym (ap (λ (t : Station). keeping t kept) c.self.view_is)) c.self.invariant.0 (ap (λ v. v.items) c.replace-team.ensures.value) (ap (λ v. v.items) c.heard.ensures.passes)
-          c.told-team.ensures.told walked c.heard.ensures.heard (c.answer_of.ensures bytes);
+          c.told-team.ensures.told walked c.heard.ensures.heard c.walk_map-team.ensures.map (c.answer_of.ensures bytes);
     })

@@ -12,7 +12,7 @@ returns-in-SetEach-clause-answers g c = (
 
 pub returns-in-Connection-clause-answers : goal.returns-in-Connection-clause-answers
 returns-in-Connection-clause-answers g c =
-    let (w, sends, answers) = c.answer_connection.ensures.answers c.args.pass.now in (w, sends, rw c.in-Connection.is answers)
+    let (w, sends, answers) = c.answer_connection-sent.ensures.answers c.args.pass.now in (w, sends, rw c.in-Connection.is answers)
 
 pub returns-in-Server-clause-answers : goal.returns-in-Server-clause-answers
 returns-in-Server-clause-answers g c =

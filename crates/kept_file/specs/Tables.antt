@@ -1,0 +1,61 @@
+-- The tables of a file, as the database understands the texts that make them.
+use Rattle.std.specs.Prelude.{Bool, true, false, ℕ, List, [], ◌∷◌, ◌++◌, Option, Some, None, map, codes}
+use Rattle.sqlite.specs.Collation.TheVariants.{Binary}
+use Rattle.sqlite.specs.declared.types.Value.TheVariants.{Null}
+use Rattle.sqlite.specs.Kind.{Kind}
+use Rattle.sqlite.specs.Kind.TheVariants.{Integer, Text, Blob}
+use Rattle.sqlite.specs.Table.{Table}
+use Rattle.sqlite.specs.Schema.{Schema}
+use Rattle.sqlite_schema.specs.declared.schema.Column.{Column}
+use Rattle.sqlite_schema.specs.declared.schema.Index.{Index}
+use Rattle.sqlite_value.specs.Keys.{plain}
+
+abbrev column_of : List ℕ → Kind → Bool → Column
+column_of name kind needed = record { name = name; kind = kind; is_strict = true; not_null = needed; default = Null; collation = Binary }
+
+-- a table of this name in this tree, whose key is its rowid in the column `key`, or these columns
+abbrev table_of : List ℕ → ℕ → List Column → Option ℕ → List ℕ → List (List ℕ) → Table
+table_of name tree columns key primary uniques = record {
+  name = name;
+  tree = tree;
+  columns = columns;
+  key = key;
+  primary = primary;
+  uniques = uniques;
+  orders = map (λ key. plain) uniques;
+  checks = [];
+  references = [];
+  computed = [];
+  stamps = record { places = []; terms = []; formats = [] };
+  is_counted = false;
+}
+
+abbrev index_of : List ℕ → ℕ → ℕ → List ℕ → Index
+index_of name tree table columns = record { name = codes "sqlite_autoindex_" ++ name; tree = tree; table = table; columns = columns; order = plain; is_unique = true }
+
+abbrev pub settings_table : Table
+settings_table = table_of (codes "settings") 0 (column_of (codes "name") Text true ∷ column_of (codes "value") Integer true ∷ []) None (1 ∷ []) ((1 ∷ []) ∷ [])
+
+abbrev pub programs_table : Table
+programs_table = table_of (codes "programs") 2
+    (column_of (codes "number") Integer false ∷ column_of (codes "key_size") Integer true ∷ column_of (codes "old_size") Integer true
+    ∷ column_of (codes "arg_size") Integer true ∷ column_of (codes "result_size") Integer true ∷ column_of (codes "bytes") Blob true ∷ [])
+    (Some 0) (0 ∷ []) []
+
+abbrev pub scripts_table : Table
+scripts_table = table_of (codes "scripts") 3 (column_of (codes "number") Integer false ∷ column_of (codes "text") Blob true ∷ []) (Some 0) (0 ∷ []) []
+
+abbrev pub entries_tree : ℕ
+entries_tree = 4
+
+abbrev pub entries_table : Table
+entries_table = table_of (codes "entries") entries_tree
+    (column_of (codes "stripe") Integer true ∷ column_of (codes "key") Blob true ∷ column_of (codes "value") Blob true ∷ column_of (codes "deadline") Integer false ∷ [])
+    None (1 ∷ 2 ∷ []) ((1 ∷ 2 ∷ []) ∷ [])
+
+abbrev pub kept_schema : Schema
+kept_schema = record {
+  tables = settings_table ∷ programs_table ∷ scripts_table ∷ entries_table ∷ [];
+  indexes = index_of (codes "settings_1") 1 0 (1 ∷ []) ∷ index_of (codes "entries_1") 5 4 (1 ∷ 2 ∷ []) ∷ [];
+  views = [];
+}

@@ -1,0 +1,200 @@
+#!/usr/bin/env python3
+"""Bounds what entries cost the built programs, without timing anything. Of mapd: how much its resident memory grows with twice as many
+entries, at six lengths; what is left of it after all are removed, or after long values became short; and how many entries fit in a bounded
+address space. Of bpfmap, if there is a valgrind: how many instructions a key takes that isn't random, beside a random one as long, also
+while keys of one hash are there, and after they went.
+
+By hand, after `rt run` in crates/bpfmap and crates/mapd: python3 tests/entries.py. Other programs are tried by --bpfmap and --mapd."""
+from __future__ import annotations
+
+import argparse
+import itertools
+import random
+import re
+import shutil
+import subprocess
+import sys
+import tempfile
+import uuid
+from collections.abc import Iterable, Iterator
+from concurrent.futures import ThreadPoolExecutor
+from pathlib import Path
+
+sys.path.insert(0, str(Path(__file__).resolve().parent))
+sys.dont_write_bytecode = True
+import wire  # noqa: E402
+
+BPFMAP = Path(__file__).resolve().parent.parent / "crates/bpfmap/out/bpfmap"
+# The bytes of a key and of a value, how many entries there are before as many more come, and the most bytes that one may take.
+SHAPES = [(8, 8, 200_000, 95), (16, 24, 150_000, 130), (16, 100, 100_000, 215), (32, 200, 60_000, 350), (48, 500, 30_000, 730),
+          (64, 1024, 20_000, 1_300)]
+# At least this many entries of 8 and 8 bytes fit in a GiB of address space, and of this many some are refused.
+ROOMY, CROWDED, GIBIBYTE_KIB = 600_000, 1_400_000, 1 << 20
+# How many keys of each kind are put and read.
+KEYS = 20_000
+MEBIBYTE = 1 << 20
+NO_MEMORY = wire.frame(wire.refused(9))
+# Pairs of bytes of one hash.
+PAIRS = (b"Aa", b"BB")
+
+
+def scattered(number: int, size: int) -> bytes:
+    """The key of this number: no two are the same, and they are in no order."""
+    return (number * 0x9E3779B97F4A7C15 % 2 ** 64).to_bytes(8, "big").ljust(size, b"k")
+
+
+class Session:
+    """A client of a server of its own, which sends many requests at once and reads what is answered."""
+
+    def __init__(self, program: Path, kib: int | None = None) -> None:
+        self.server = wire.Server(program, ["--workers", "1"], kib=kib)
+        self.client = wire.opened(self.server.address, 2)
+
+    def __enter__(self) -> Session:
+        return self
+
+    def __exit__(self, *_: object) -> None:
+        self.server.process.kill()
+        self.server.process.communicate()
+
+    def ask(self, bodies: Iterable[bytes]) -> int:
+        """Sends requests that are answered by one frame each, and returns how many of them were refused for want of memory."""
+        refused = 0
+        bodies = iter(bodies)
+        with ThreadPoolExecutor(1) as pool:
+            while piece := list(itertools.islice(bodies, 500)):
+                sending = pool.submit(self.client.send, *piece)
+                refused += sum(self.client.answer() == wire.refused(9) for _ in piece)
+                sending.result()
+        return refused
+
+    def put(self, numbers: range, key: int, value: int) -> int:
+        """Puts entries of this length, and returns how many were refused."""
+        return self.ask(wire.put(scattered(number, key), bytes(value)) for number in numbers)
+
+    def remove(self, numbers: range, key: int) -> None:
+        """Removes entries."""
+        self.ask(wire.remove(scattered(number, key)) for number in numbers)
+
+    def resident(self) -> int:
+        """The bytes of memory that the server has."""
+        status = Path(f"/proc/{self.server.process.pid}/status").read_text()
+        return 1024 * int(re.search(r"VmRSS:\s+(\d+) kB", status)[1])
+
+
+def most(what: str, found: float, bound: float) -> None:
+    """Fails if it is more."""
+    if found > bound:
+        raise wire.Wrong(f"{what}: {found:.2f}, and at most {bound:.2f} is right")
+    print(f"entries: {what}: {found:.2f}, at most {bound:.2f}")
+
+
+def try_shape(program: Path, key: int, value: int, count: int, bound: int) -> None:
+    """Bounds the bytes an entry of this length, and what is left after all are removed."""
+    with Session(program) as session:
+        empty = session.resident()
+        session.put(range(count), key, value)
+        before = session.resident()
+        session.put(range(count, 2 * count), key, value)
+        most(f"bytes an entry of {key} and {value}", (session.resident() - before) / count, bound)
+        session.remove(range(2 * count), key)
+        most(f"MiB after all of {key} and {value} are removed, of {empty / MEBIBYTE:.1f} without", session.resident() / MEBIBYTE,
+             1.3 * empty / MEBIBYTE + 3)
+
+
+def try_shorter(program: Path) -> None:
+    """Values become long and then short again: other long ones take the rows that they left."""
+    with Session(program) as session:
+        session.put(range(40_000), 8, 1024)
+        full = session.resident()
+        session.put(range(40_000), 8, 8)
+        session.put(range(40_000, 76_000), 8, 1024)
+        most("times the memory, with as many long values again after the first became short", session.resident() / full, 1.2)
+
+
+def try_bounded(program: Path) -> None:
+    """Entries in a bounded address space: many fit, and the others are refused."""
+    with Session(program, GIBIBYTE_KIB) as session:
+        refused = session.put(range(CROWDED), 8, 8)
+        most(f"of {CROWDED} entries refused in a GiB of address space", refused, CROWDED - ROOMY)
+        if refused == 0:
+            raise wire.Wrong("no entry was refused, so nothing is shown")
+
+
+def instructions(program: Path, bodies: Iterable[bytes]) -> int:
+    """How many instructions `bpfmap exec` takes for these requests."""
+    sent = wire.frames([wire.hello(2), *bodies])
+    with tempfile.TemporaryFile() as file:
+        file.write(sent)
+        file.seek(0)
+        run = subprocess.run(
+            ["valgrind", "--tool=callgrind", "--callgrind-out-file=/dev/null", str(program), "exec", "--stripes", "1"], stdin=file,
+            capture_output=True, timeout=600, check=False)
+    found = re.search(rb"Collected : (\d+)", run.stderr)
+    if run.returncode != 0 or found is None or NO_MEMORY in run.stdout:
+        raise wire.Failed(f"status {run.returncode}: {run.stderr[-300:]}")
+    return int(found[1])
+
+
+def used(keys: Iterable[bytes]) -> list[bytes]:
+    """Requests that put these keys, and then read each of them."""
+    keys = list(keys)
+    return [wire.put(key, bytes(8)) for key in keys] + [wire.get(key) for key in keys]
+
+
+def kinds_of_keys() -> Iterator[tuple[str, list[bytes]]]:
+    """Keys that clients take, by their kind."""
+    numbers = range(KEYS)
+    yield "big-endian counters", [number.to_bytes(8, "big") for number in numbers]
+    yield "little-endian counters", [number.to_bytes(8, "little") for number in numbers]
+    yield "decimal texts", [b"%08d" % number for number in numbers]
+    yield "UUID texts", [str(uuid.UUID(int=number, version=4)).encode() for number in numbers]
+
+
+def random_keys(count: int, size: int) -> list[bytes]:
+    """Random keys, the same ones each time."""
+    dice = random.Random(7)
+    return [dice.randbytes(size) for _ in range(count)]
+
+
+def try_keys(program: Path) -> None:
+    """Bounds what a key of each kind costs beside a random one as long."""
+    nothing = instructions(program, [])
+    beside = {size: instructions(program, used(random_keys(KEYS, size))) - nothing for size in (8, 36)}
+    most("instructions of a Put and a Get of a random key", beside[8] / KEYS, 2_000)
+    for kind, keys in kinds_of_keys():
+        took = instructions(program, used(keys)) - nothing
+        most(f"times the instructions of random keys, with {kind}", took / beside[len(keys[0])], 1.15)
+    try_hostile(program, nothing, beside[8])
+
+
+def try_hostile(program: Path, nothing: int, beside: int) -> None:
+    """Bounds what keys of one hash cost, and what random ones cost after they went."""
+    keys = [b"".join(pairs) for pairs in itertools.islice(itertools.product(PAIRS, repeat=15), KEYS)]
+    long_ones = instructions(program, used(random_keys(KEYS, 30))) - nothing
+    most("times the instructions of random keys, with keys of one hash", (instructions(program, used(keys)) - nothing) / long_ones, 1.5)
+    came = [wire.put(key, bytes(8)) for key in keys] + [wire.remove(key) for key in keys]
+    after = instructions(program, came + used(random_keys(KEYS, 8))) - instructions(program, came)
+    most("times the instructions of random keys, after keys of one hash went", after / beside, 1.1)
+
+
+def main() -> None:
+    words = argparse.ArgumentParser(description=__doc__)
+    words.add_argument("--bpfmap", type=Path, default=BPFMAP)
+    words.add_argument("--mapd", type=Path, default=wire.SERVER)
+    asked = words.parse_args()
+    try:
+        for shape in SHAPES:
+            try_shape(asked.mapd, *shape)
+        try_shorter(asked.mapd)
+        try_bounded(asked.mapd)
+        if shutil.which("valgrind"):
+            try_keys(asked.bpfmap)
+        else:
+            print("entries: no valgrind here, so no instructions were counted")
+    except (wire.Wrong, wire.Failed, wire.Ended) as failure:
+        sys.exit(f"entries: FAILED, {failure}")
+
+
+if __name__ == "__main__":
+    main()

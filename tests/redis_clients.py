@@ -1,0 +1,219 @@
+#!/usr/bin/env python3
+"""The clients of the built mapd, as CLIENT LIST shows them and CLIENT KILL lets them go: lists over four workers with 200 clients of both
+ports; idle and busy clients that are let go, and only these; one that lets itself go and is told first; names and libraries; and replies
+to wrong words beside those of a redis-server, if one is installed.
+
+By hand, after `rt run` in crates/mapd: python3 tests/redis_clients.py. --program names another server, --only a part. By .ci/run."""
+from __future__ import annotations
+
+import contextlib
+import shutil
+import sys
+import threading
+import time
+from pathlib import Path
+
+sys.path.insert(0, str(Path(__file__).resolve().parent))
+sys.dont_write_bytecode = True
+import redis_wire as resp  # noqa: E402
+import wire  # noqa: E402
+from redis_wire import Client, started  # noqa: E402
+from wire import same  # noqa: E402
+
+# A client that is let go has to be gone after this time.
+GONE_SECONDS = 2.0
+# Words of which no reply depends on who asks.
+WORDS = [
+    "CLIENT KILL", "CLIENT KILL 1.2.3.4:5", "CLIENT KILL id", "CLIENT KILL id 0", "CLIENT KILL id abc", "CLIENT KILL id -1", "CLIENT KILL ID 99999",
+    "CLIENT KILL id 99999 addr", "CLIENT KILL id 99999 foo bar", "CLIENT KILL type foo", "CLIENT KILL type master", "CLIENT KILL type replica",
+    "CLIENT KILL type SLAVE", "CLIENT KILL type pubsub skipme no", "CLIENT KILL user foo", "CLIENT KILL user default id 99999", "CLIENT KILL skipme maybe",
+    "CLIENT KILL skipme yes id 99999", "CLIENT KILL laddr 1.2.3.4:5", "CLIENT KILL addr 1.2.3.4:5 laddr 1.2.3.4:5 skipme no",
+    "CLIENT KILL id 9223372036854775807", "CLIENT KILL id 9223372036854775808", "CLIENT KILL id 99999 id", "CLIENT LIST foo", "CLIENT LIST foo bar",
+    "CLIENT LIST TYPE foo", "CLIENT LIST TYPE pubsub", "CLIENT LIST TYPE", "CLIENT LIST TYPE normal x", "CLIENT LIST ID", "CLIENT LIST ID 0",
+    "CLIENT LIST ID 99999 foo", "CLIENT LIST ID 07", "CLIENT LIST ID -3", "CLIENT INFO x", "SLOWLOG", "SLOWLOG foo", "SLOWLOG GET -1x", "SLOWLOG GET -2",
+    "SLOWLOG GET 1 2", "SLOWLOG get 1 2", "SLOWLOG LEN", "SLOWLOG LEN 2", "SLOWLOG RESET", "SLOWLOG RESET 3", "SLOWLOG HELP", "SLOWLOG HELP 2",
+    "SLOWLOG GET", "SLOWLOG GET 0", "SLOWLOG GET -1", "SLOWLOG GET 99999999999999999999",
+]
+
+
+def listed(client: Client, *words: resp.Word) -> dict[int, dict[str, str]]:
+    """The clients that CLIENT LIST shows, by their numbers."""
+    text = resp.text_of(client.ask("CLIENT", "LIST", *words)).decode()
+    rows = [dict(field.split("=", 1) for field in line.split(" ")) for line in text.splitlines()]
+    return {int(row["id"]): row for row in rows}
+
+
+def number_of(client: Client) -> int:
+    """The client's number."""
+    return int(client.ask("CLIENT", "ID")[1:])
+
+
+def own_address(client: Client) -> str:
+    """The client's address, as the server sees it."""
+    host, port = client.socket.getsockname()[:2]
+    return f"{host}:{port}"
+
+
+def is_gone(client: Client) -> None:
+    """The server ends the client's connection in time."""
+    client.socket.settimeout(GONE_SECONDS)
+    same("what a client that is let go reads", client.rest(), b"")
+
+
+def lists_agree(program: Path) -> None:
+    """Two hundred clients of both ports, over four workers."""
+    with started(program, "--workers", "4") as server, contextlib.ExitStack() as stack:
+        asking = stack.enter_context(Client(server.address))
+        clients = [stack.enter_context(Client(server.address)) for _ in range(150)]
+        framed = [stack.enter_context(wire.opened(server.frames)) for _ in range(50)]
+        numbers = {number_of(client): client for client in clients}
+        same("how many numbers there are", len(numbers), 150)
+        for one in framed:
+            one.ask(wire.get(b"key"))
+        shown = listed(asking)
+        same("how many are listed", len(shown), 201)
+        same("how many of the port for frames", sum(row["resp"] == "0" for row in shown.values()), 50)
+        for number, client in numbers.items():
+            row = shown[number]
+            same("the addresses", (row["addr"], row["laddr"]), (own_address(client), server.address))
+            same("the last command", row["cmd"], "client|id")
+        same("what the others say", [set(listed(clients[at])) for at in (0, 50, 149)], [set(shown)] * 3)
+        info = resp.text_of(asking.ask("INFO", "clients")).decode()
+        same("what INFO says", "connected_clients:201\r\n" in info, True)
+        chosen = list(numbers)[7:9]
+        same("those that are named", sorted(listed(asking, "ID", *chosen)), sorted(chosen))
+        same("those of the type normal", set(listed(asking, "TYPE", "normal")), set(shown))
+        for client in clients[:100]:
+            client.socket.close()
+        until = time.monotonic() + GONE_SECONDS
+        while len(listed(asking)) != 101 and time.monotonic() < until:
+            time.sleep(0.02)
+        same("how many are left", len(listed(asking)), 101)
+
+
+def names_are_shown(program: Path) -> None:
+    """Names, libraries, the last command and times."""
+    with started(program, "--workers", "2") as server, Client(server.address) as one, Client(server.address) as other:
+        number = number_of(one)
+        same("SETNAME", one.ask("CLIENT", "SETNAME", "first"), resp.OK)
+        same("SETINFO", one.ask("CLIENT", "SETINFO", "LIB-NAME", "tests"), resp.OK)
+        same("SETINFO", one.ask("CLIENT", "SETINFO", "lib-ver", "1.2"), resp.OK)
+        one.ask("PEXPIRETIME", "none")
+        row = listed(other)[number]
+        same("the row", (row["name"], row["lib-name"], row["lib-ver"], row["cmd"], row["age"], row["idle"]), ("first", "tests", "1.2", "pexpiretime", "0", "0"))
+        same("its own row", resp.text_of(one.ask("CLIENT", "INFO")).decode().split(" ")[0], f"id={number}")
+        same("its own command", "cmd=client|info " in resp.text_of(one.ask("CLIENT", "INFO")).decode(), True)
+        one.ask("nonsense")
+        time.sleep(2.1)
+        row = listed(other)[number]
+        same("the row later", (row["cmd"], int(row["age"]) >= 2, int(row["idle"]) >= 2), ("client|info", True, True))
+        same("HELLO", one.ask("HELLO", 2, "SETNAME", "second")[:1], b"*")
+        same("the new name", listed(other)[number]["name"], "second")
+        same("RESET", one.ask("RESET"), b"+RESET\r\n")
+        same("no name", listed(other)[number]["name"], "")
+
+
+def idle_clients_are_let_go(program: Path) -> None:
+    """By address, by number, by both, and all others."""
+    with started(program, "--workers", "4") as server, contextlib.ExitStack() as stack:
+        asking = stack.enter_context(Client(server.address))
+        clients = [stack.enter_context(Client(server.address)) for _ in range(40)]
+        numbers = [number_of(client) for client in clients]
+        framed = stack.enter_context(wire.opened(server.frames))
+        same("KILL by address", asking.ask("CLIENT", "KILL", own_address(clients[0])), resp.OK)
+        same("KILL of one that is gone", asking.ask("CLIENT", "KILL", own_address(clients[0])), resp.error("ERR No such client"))
+        same("KILL by number", asking.ask("CLIENT", "KILL", "ID", numbers[1]), resp.integer(1))
+        same("KILL again", asking.ask("CLIENT", "KILL", "ID", numbers[1]), resp.integer(0))
+        same("KILL by both", asking.ask("CLIENT", "KILL", "ID", numbers[2], "ADDR", own_address(clients[2])), resp.integer(1))
+        same("KILL of nobody", asking.ask("CLIENT", "KILL", "ID", numbers[3], "ADDR", own_address(clients[4])), resp.integer(0))
+        for client in clients[:3]:
+            is_gone(client)
+        for client, number in zip(clients[3:], numbers[3:]):
+            same("those that stay", number_of(client), number)
+        same("one of the other port that stays", framed.ask(wire.get(b"key")), wire.NOTHING)
+        same("KILL of all others", asking.ask("CLIENT", "KILL", "TYPE", "normal"), resp.integer(38))
+        for client in clients[3:]:
+            is_gone(client)
+        same("the one of the other port", framed.rest(), b"")
+        same("who is left", list(listed(asking)), [number_of(asking)])
+
+
+def busy_clients_are_let_go(program: Path) -> None:
+    """Half of the clients, all of which ask all the time."""
+    with started(program, "--workers", "4") as server, contextlib.ExitStack() as stack:
+        asking = stack.enter_context(Client(server.address))
+        clients = [stack.enter_context(Client(server.address)) for _ in range(16)]
+        numbers = [number_of(client) for client in clients]
+        ends: list[bool] = [False] * len(clients)
+        goes_on = threading.Event()
+
+        def ask(at: int) -> None:
+            with contextlib.suppress(wire.Ended, OSError):
+                while not goes_on.is_set():
+                    clients[at].ask("INCR", f"key {at}")
+                return
+            ends[at] = True
+
+        threads = [threading.Thread(target=ask, args=(at,)) for at in range(len(clients))]
+        for thread in threads:
+            thread.start()
+        time.sleep(0.3)
+        for number in numbers[::2]:
+            same("KILL of a busy one", asking.ask("CLIENT", "KILL", "ID", number), resp.integer(1))
+        time.sleep(0.5)
+        same("who ended", ends, [at % 2 == 0 for at in range(len(clients))])
+        goes_on.set()
+        for thread in threads:
+            thread.join()
+        same("who is left", set(listed(asking)), {number_of(asking), *numbers[1::2]})
+
+
+def deaf_clients_are_let_go(program: Path) -> None:
+    """A client that is owed much and reads nothing."""
+    with started(program, "--workers", "1") as server, Client(server.address) as asking, Client(server.address) as deaf:
+        number = number_of(deaf)
+        same("a SET", asking.ask("SET", "a", b"v" * 1024), resp.OK)
+        deaf.socket.setblocking(False)
+        with contextlib.suppress(BlockingIOError):
+            for _ in range(200):
+                deaf.socket.send(resp.command("GET", "a") * 1000)
+        time.sleep(0.3)
+        same("KILL of a deaf one", asking.ask("CLIENT", "KILL", "ID", number), resp.integer(1))
+        time.sleep(0.2)
+        same("who is left", list(listed(asking)), [number_of(asking)])
+
+
+def own_end(program: Path) -> None:
+    """A client that lets itself go is told first, and what it sent after that is not answered."""
+    with started(program, "--workers", "2") as server:
+        for words, reply in ((lambda c: ("CLIENT", "KILL", own_address(c)), resp.OK), (lambda c: ("CLIENT", "KILL", "ID", number_of(c), "SKIPME", "no"), resp.integer(1))):
+            with Client(server.address) as client:
+                client.socket.sendall(resp.command(*words(client)) + resp.command("SET", "a", "1"))
+                same("what it is told", client.rest(), reply)
+        with Client(server.address) as client:
+            same("what was not made", client.ask("EXISTS", "a"), resp.integer(0))
+            same("SKIPME", client.ask("CLIENT", "KILL", "ID", number_of(client)), resp.integer(0))
+
+
+def words_as_redis(program: Path) -> None:
+    """Replies are those of redis-server, byte for byte."""
+    if shutil.which("redis-server") is None:
+        print("no redis-server here, so no reply was compared")
+        return
+    other = resp.Redis(["--slowlog-log-slower-than", "-1"])
+    try:
+        with started(program) as server, Client(server.address) as ours, Client(other.address) as theirs:
+            for line in WORDS:
+                same(line, ours.ask(*line.split(" ")), theirs.ask(*line.split(" ")))
+            for word in (b"a" * 128, b"a\r\nb\r\n", b"a\0b", b""):
+                for option in ("TYPE", "USER"):
+                    same(f"KILL {option} {word!r}", ours.ask("CLIENT", "KILL", option, word), theirs.ask("CLIENT", "KILL", option, word))
+    finally:
+        other.end()
+
+
+PARTS = [lists_agree, names_are_shown, idle_clients_are_let_go, busy_clients_are_let_go, deaf_clients_are_let_go, own_end, words_as_redis]
+
+
+if __name__ == "__main__":
+    wire.play_parts("redis_clients", __doc__.splitlines()[0], PARTS)

@@ -1,0 +1,87 @@
+#!/usr/bin/env python3
+"""Which threads of mapd walk. A ForEach with a long program goes over many entries: with a team of four, four threads work on it, and with
+a team of one, or below the walk's threshold, one. The system's counts of processor time say which threads worked.
+
+By hand, after `rt run` in crates/mapd: python3 tests/teams.py. Another program is tried by --program."""
+from __future__ import annotations
+
+import argparse
+import sys
+import threading
+from pathlib import Path
+
+sys.path.insert(0, str(Path(__file__).resolve().parent))
+sys.dont_write_bytecode = True
+import wire  # noqa: E402
+
+# A program of 4,094 units, most of them divisions, which answers nothing.
+LONG = bytes.fromhex("b705000001000000") + bytes.fromhex("3705000003000000") * 4091 + bytes.fromhex("b7000000ffffffff 9500000000000000")
+SIZES = (64, 1024, 8, 8)
+ENTRIES = 40_000
+PIECE = 4_000
+FOR_EACH = 0x21
+# A thread worked if it used at least this many ticks of the system's clock, of which a second has a hundred.
+TICKS = 3
+
+
+def ticks_of(process: int) -> dict[str, int]:
+    """The processor time of each thread."""
+    ticks = {}
+    for task in Path(f"/proc/{process}/task").iterdir():
+        try:
+            fields = (task / "stat").read_text().rsplit(")", 1)[1].split()
+        except (FileNotFoundError, ProcessLookupError):
+            continue
+        ticks[task.name] = int(fields[11]) + int(fields[12])
+    return ticks
+
+
+def threads_that_work(server: wire.Server, client: wire.Client, request: bytes) -> int:
+    """Sends the request, and returns how many threads worked until it was answered."""
+    before, most = ticks_of(server.process.pid), {}
+    asking = threading.Thread(target=client.walk, args=(request,))
+    asking.start()
+    while asking.is_alive():
+        for thread, ticks in ticks_of(server.process.pid).items():
+            most[thread] = ticks - before.get(thread, 0)
+        asking.join(0.005)
+    return sum(ticks >= TICKS for ticks in most.values())
+
+
+def put_all(client: wire.Client) -> None:
+    """Puts the entries, some at a time."""
+    for first in range(0, ENTRIES, PIECE):
+        client.send(*(wire.put(b"%d" % entry, b"value") for entry in range(first, first + PIECE)))
+        for _ in range(PIECE):
+            wire.same("a Put", client.answer(), wire.NOTHING)
+
+
+def for_each(number: int, threshold: int) -> bytes:
+    """The request of a walk over all entries, which one thread makes if there are fewer than this."""
+    return bytes([FOR_EACH]) + wire.number_field(number) + wire.arg_field(None) + wire.number_field(threshold)
+
+
+def try_team(program: Path, team: int) -> None:
+    """Walks with a team of this many, and counts who worked."""
+    with wire.started(program, "--workers", "1", "--team", str(team)) as server, wire.opened(server.address, 2) as client:
+        number = int.from_bytes(client.ask(wire.register(SIZES, LONG))[1:], "big")
+        put_all(client)
+        for threshold, wanted in ((1, team), (ENTRIES + 1, 1)):
+            found = threads_that_work(server, client, for_each(number, threshold))
+            wire.same(f"how many of a team of {team} walk over {ENTRIES} entries with threshold {threshold}", found, wanted)
+            print(f"teams: with a team of {team} and threshold {threshold}, {found} walk over {ENTRIES} entries")
+
+
+def main() -> None:
+    words = argparse.ArgumentParser(description=__doc__)
+    words.add_argument("--program", type=Path, default=wire.SERVER)
+    asked = words.parse_args()
+    try:
+        for team in (4, 1):
+            try_team(asked.program, team)
+    except (wire.Wrong, wire.Ended) as failure:
+        sys.exit(f"teams: FAILED, {failure}")
+
+
+if __name__ == "__main__":
+    main()
