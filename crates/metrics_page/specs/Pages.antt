@@ -1,7 +1,8 @@
 -- The numbers as Prometheus reads them, in its text format 0.0.4, and the answers to requests, by RFC 9110 and 9112.
-use Rattle.std.specs.Prelude.{ℕ, List, ◌++◌, length, codes, decimal, if◌then◌else◌}
+use Rattle.std.specs.Prelude.{ℕ, List, ◌++◌, length, flat_map, codes, decimal, if◌then◌else◌}
 use Rattle.metrics_page.specs.declared.asked.Asked.{Asked}
 use Rattle.metrics_page.specs.declared.asked.Asked.TheVariants.{Page, PageHead, OtherPath, OtherMethod, Unreadable}
+use Rattle.metrics_page.specs.declared.numbers.Labelled.{Labelled}
 use Rattle.metrics_page.specs.declared.numbers.Numbers.{Numbers}
 use Rattle.metrics_page.specs.declared.text.Kind.{Kind}
 use Rattle.metrics_page.specs.declared.text.Kind.TheVariants.{Gauge, Counter}
@@ -14,6 +15,19 @@ kind_text Counter = codes " counter\n"
 unfoldable pub metric : Kind → List ℕ → List ℕ → ℕ → List ℕ
 metric kind name help number =
     codes "# HELP " ++ name ++ codes " " ++ help ++ codes "\n# TYPE " ++ name ++ kind_text kind ++ name ++ codes " " ++ decimal number ++ codes "\n"
+
+-- two lines: what numbers that count up mean, and their kind
+unfoldable pub about : List ℕ → List ℕ → List ℕ
+about name help = codes "# HELP " ++ name ++ codes " " ++ help ++ codes "\n# TYPE " ++ name ++ codes " counter\n"
+
+-- the line of one of several numbers, whose label is one of this key
+unfoldable pub series_line : List ℕ → List ℕ → Labelled → List ℕ
+series_line name key one =
+    name ++ codes "{" ++ key ++ codes "=\"" ++ one.label.items ++ codes "\"} " ++ decimal one.number ++ codes "\n"
+
+-- several numbers of a name
+abbrev pub series : List ℕ → List ℕ → List ℕ → List Labelled → List ℕ
+series name help key all = about name help ++ flat_map (series_line name key) all
 
 -- the map and the process
 abbrev pub process : Numbers → List ℕ
@@ -28,12 +42,18 @@ clients numbers =
     ++ metric Counter (codes "mapd_clients_came_total") (codes "Clients that came, also those that were turned away.") numbers.clients_came
     ++ metric Counter (codes "mapd_clients_refused_total") (codes "Clients that were turned away, since there was no room.") numbers.clients_refused
 
-abbrev pub calls : Numbers → List ℕ
-calls numbers =
-    metric Counter (codes "mapd_commands_total") (codes "Commands on the Redis port, right ones and wrong ones.") numbers.commands
-    ++ metric Counter (codes "mapd_requests_total") (codes "Requests in frames.") numbers.requests
+abbrev pub commands : Numbers → List ℕ
+commands numbers =
+    series (codes "mapd_commands_total") (codes "Commands on the Redis port, right ones and wrong ones.") (codes "command") numbers.commands.items
     ++ metric Counter (codes "mapd_walks_total") (codes "Commands on the Redis port that walked over the whole map.") numbers.walks
-    ++ metric Counter (codes "mapd_refusals_total") (codes "Commands on the Redis port to which memory was refused.") numbers.refusals
+
+abbrev pub requests : Numbers → List ℕ
+requests numbers = series (codes "mapd_requests_total") (codes "Requests in frames.") (codes "request") numbers.requests.items
+
+abbrev pub refusals : Numbers → List ℕ
+refusals numbers =
+    series (codes "mapd_refusals_total") (codes "Refusals in frames by their numbers; OOM: memory was refused to commands on the Redis port.")
+    (codes "number") numbers.refusals.items
 
 abbrev pub keys : Numbers → List ℕ
 keys numbers =
@@ -48,7 +68,8 @@ saves numbers =
 
 -- the page
 unfoldable pub text : Numbers → List ℕ
-text numbers = process numbers ++ clients numbers ++ calls numbers ++ keys numbers ++ saves numbers
+text numbers =
+    process numbers ++ clients numbers ++ commands numbers ++ requests numbers ++ refusals numbers ++ keys numbers ++ saves numbers
 
 -- the head of the page's answer, by the length of the page
 abbrev pub page_head : ℕ → List ℕ

@@ -13,4 +13,6 @@ mod text;
 
 pub use answers::{ANSWER_BYTES, Answer, answer};
 pub use asked::{Asked, HEAD_BYTES, asked_by};
-pub use numbers::Numbers;
+pub use numbers::{
+    LABEL_BYTES, Label, Labelled, MOST_COMMANDS, MOST_REFUSALS, MOST_REQUESTS, Numbers,
+};

@@ -1,7 +1,33 @@
 //! The numbers of a server.
 
+use arrayvec::ArrayVec;
+
+/// The bytes that a label has at most.
+pub const LABEL_BYTES: usize = 24;
+
+/// At most this many kinds of commands are told apart.
+pub const MOST_COMMANDS: usize = 80;
+
+/// At most this many kinds of requests are told apart.
+pub const MOST_REQUESTS: usize = 20;
+
+/// At most this many kinds of refusals are told apart.
+pub const MOST_REFUSALS: usize = 48;
+
+/// What tells a number from others of its name. It has no quote, backslash or newline.
+pub type Label = ArrayVec<u8, LABEL_BYTES>;
+
+/// One of several numbers of a name.
+#[derive(Default, Drop)]
+pub struct Labelled {
+    /// What tells it from the others.
+    pub label: Label,
+    /// The number.
+    pub number: u64,
+}
+
 /// The numbers of a server, as they are now.
-#[derive(Clone, Copy, Debug, PartialEq, Eq)]
+#[derive(Drop)]
 pub struct Numbers {
     /// The entries of the map.
     pub entries: u64,
@@ -13,14 +39,14 @@ pub struct Numbers {
     pub clients_came: u64,
     /// Clients that were turned away, since there was no room for them.
     pub clients_refused: u64,
-    /// Commands of Redis, right ones and wrong ones.
-    pub commands: u64,
-    /// Requests in frames.
-    pub requests: u64,
+    /// Commands of Redis, right ones and wrong ones, by their names.
+    pub commands: ArrayVec<Labelled, MOST_COMMANDS>,
+    /// Requests in frames, by their names.
+    pub requests: ArrayVec<Labelled, MOST_REQUESTS>,
     /// Commands of Redis that walked over the whole map.
     pub walks: u64,
-    /// Commands of Redis to which memory was refused.
-    pub refusals: u64,
+    /// Refusals in frames by their numbers, and those of commands of Redis.
+    pub refusals: ArrayVec<Labelled, MOST_REFUSALS>,
     /// Entries that sweeps took away, since their time was over.
     pub expired: u64,
     /// Reads of a key by commands of Redis that found a value.

@@ -1,19 +1,25 @@
 //! The numbers as Prometheus reads them.
-ghost use Rattle.std.specs.Prelude.{◌≡◌, ◌+◌, ◌*◌, ◌≤◌, ◌++◌, length, if◌then◌else◌};
+ghost use Rattle.std.specs.Prelude.{◌≡◌, ◌+◌, ◌*◌, ◌≤◌, ◌++◌, length, flat_map, if◌then◌else◌};
 ghost use Rattle.arrayvec.specs.ArrayVec.{array_vec_len};
 ghost use Rattle.metrics_page.specs.Pages as spec;
-ghost use Rattle.metrics_page.specs.Pages.{kind_text, metric, text};
+ghost use Rattle.metrics_page.specs.Pages.{about, kind_text, metric, series, series_line, text};
 
 use crate::buffer::append;
-use crate::numbers::Numbers;
+use crate::numbers::{Labelled, MOST_COMMANDS, MOST_REFUSALS, MOST_REQUESTS, Numbers};
 use arrayvec::ArrayVec;
 use itoa::Buffer;
 
 /// The bytes that the lines of one number take at most.
 pub(crate) const METRIC_BYTES: usize = 288;
 
+/// The bytes that the line of a number with a label takes at most.
+const LABELLED_BYTES: usize = 104;
+
+/// The numbers with labels are at most this many.
+const MOST_LABELLED: usize = MOST_COMMANDS + MOST_REQUESTS + MOST_REFUSALS;
+
 /// The room for the lines of all numbers.
-pub(crate) const TEXT_BYTES: usize = 16 * METRIC_BYTES;
+pub(crate) const TEXT_BYTES: usize = 16 * METRIC_BYTES + MOST_LABELLED * LABELLED_BYTES;
 
 /// The lines of the numbers.
 pub(crate) type Text = ArrayVec<u8, TEXT_BYTES>;
@@ -120,25 +126,80 @@ fn put_clients(text: &mut Text, numbers: &Numbers)
     );
 }
 
-/// Appends the numbers of commands and requests.
-fn put_calls(text: &mut Text, numbers: &Numbers)
-    requires { array_vec_len text.old + 4 * METRIC_BYTES ≤ TEXT_BYTES }
-    ensures items { text.new.items ≡ text.old.items ++ spec.calls numbers.now }
-    ensures len { array_vec_len text.new ≤ array_vec_len text.old + 4 * METRIC_BYTES }
+/// Appends what numbers of this name mean, and their kind.
+fn put_about(text: &mut Text, name: &str, help: &str)
+    requires room { array_vec_len text.old + METRIC_BYTES ≤ TEXT_BYTES }
+    requires name { length name.now ≤ 32 }
+    requires help { length help.now ≤ 96 }
+    ensures items { text.new.items ≡ text.old.items ++ about name.now help.now }
+    ensures len { array_vec_len text.new ≤ array_vec_len text.old + METRIC_BYTES }
 {
-    put(
+    append(text, b"# HELP ");
+    append(text, name.as_bytes());
+    append(text, b" ");
+    append(text, help.as_bytes());
+    append(text, b"\n# TYPE ");
+    append(text, name.as_bytes());
+    append(text, b" counter\n");
+}
+
+/// Appends the line of one number, whose label is one of this key.
+fn put_labelled(text: &mut Text, name: &str, key: &str, one: &Labelled)
+    requires room { array_vec_len text.old + LABELLED_BYTES ≤ TEXT_BYTES }
+    requires name { length name.now ≤ 32 }
+    requires key { length key.now ≤ 16 }
+    ensures items { text.new.items ≡ text.old.items ++ series_line name.now key.now one.now }
+    ensures len { array_vec_len text.new ≤ array_vec_len text.old + LABELLED_BYTES }
+{
+    let mut digits = Buffer::new();
+    append(text, name.as_bytes());
+    append(text, b"{");
+    append(text, key.as_bytes());
+    append(text, b"=\"");
+    append(text, one.label.as_slice());
+    append(text, b"\"} ");
+    append(text, digits.format(one.number).as_bytes());
+    append(text, b"\n");
+}
+
+/// Appends the lines of numbers, whose labels are of this key.
+fn put_each(text: &mut Text, name: &str, key: &str, all: &[Labelled])
+    requires room { array_vec_len text.old + length all.now * LABELLED_BYTES ≤ TEXT_BYTES }
+    requires name { length name.now ≤ 32 }
+    requires key { length key.now ≤ 16 }
+    ensures items { text.new.items ≡ text.old.items ++ flat_map (series_line name.now key.now) all.now }
+    ensures len { array_vec_len text.new ≤ array_vec_len text.old + length all.now * LABELLED_BYTES }
+{
+    for one in all {
+        put_labelled(text, name, key, one);
+    }
+}
+
+/// Appends the lines of numbers that count up, whose labels are of this key, and what they mean.
+fn put_series(text: &mut Text, name: &str, help: &str, key: &str, all: &[Labelled])
+    requires room { array_vec_len text.old + METRIC_BYTES + length all.now * LABELLED_BYTES ≤ TEXT_BYTES }
+    requires name { length name.now ≤ 32 }
+    requires help { length help.now ≤ 96 }
+    requires key { length key.now ≤ 16 }
+    ensures items { text.new.items ≡ text.old.items ++ series name.now help.now key.now all.now }
+    ensures len { array_vec_len text.new ≤ array_vec_len text.old + METRIC_BYTES + length all.now * LABELLED_BYTES }
+{
+    put_about(text, name, help);
+    put_each(text, name, key, all);
+}
+
+/// Appends the numbers of commands.
+fn put_commands(text: &mut Text, numbers: &Numbers)
+    requires { array_vec_len text.old + 2 * METRIC_BYTES + MOST_COMMANDS * LABELLED_BYTES ≤ TEXT_BYTES }
+    ensures items { text.new.items ≡ text.old.items ++ spec.commands numbers.now }
+    ensures len { array_vec_len text.new ≤ array_vec_len text.old + 2 * METRIC_BYTES + MOST_COMMANDS * LABELLED_BYTES }
+{
+    put_series(
         text,
-        Kind::Counter,
         "mapd_commands_total",
         "Commands on the Redis port, right ones and wrong ones.",
-        numbers.commands,
-    );
-    put(
-        text,
-        Kind::Counter,
-        "mapd_requests_total",
-        "Requests in frames.",
-        numbers.requests,
+        "command",
+        numbers.commands.as_slice(),
     );
     put(
         text,
@@ -147,12 +208,35 @@ fn put_calls(text: &mut Text, numbers: &Numbers)
         "Commands on the Redis port that walked over the whole map.",
         numbers.walks,
     );
-    put(
+}
+
+/// Appends the numbers of requests.
+fn put_requests(text: &mut Text, numbers: &Numbers)
+    requires { array_vec_len text.old + METRIC_BYTES + MOST_REQUESTS * LABELLED_BYTES ≤ TEXT_BYTES }
+    ensures items { text.new.items ≡ text.old.items ++ spec.requests numbers.now }
+    ensures len { array_vec_len text.new ≤ array_vec_len text.old + METRIC_BYTES + MOST_REQUESTS * LABELLED_BYTES }
+{
+    put_series(
         text,
-        Kind::Counter,
+        "mapd_requests_total",
+        "Requests in frames.",
+        "request",
+        numbers.requests.as_slice(),
+    );
+}
+
+/// Appends the numbers of refusals.
+fn put_refusals(text: &mut Text, numbers: &Numbers)
+    requires { array_vec_len text.old + METRIC_BYTES + MOST_REFUSALS * LABELLED_BYTES ≤ TEXT_BYTES }
+    ensures items { text.new.items ≡ text.old.items ++ spec.refusals numbers.now }
+    ensures len { array_vec_len text.new ≤ array_vec_len text.old + METRIC_BYTES + MOST_REFUSALS * LABELLED_BYTES }
+{
+    put_series(
+        text,
         "mapd_refusals_total",
-        "Commands on the Redis port to which memory was refused.",
-        numbers.refusals,
+        "Refusals in frames by their numbers; OOM: memory was refused to commands on the Redis port.",
+        "number",
+        numbers.refusals.as_slice(),
     );
 }
 
@@ -221,7 +305,9 @@ pub(crate) fn text_of(numbers: &Numbers) -> Text
     let mut text = Text::new();
     put_process(&mut text, numbers);
     put_clients(&mut text, numbers);
-    put_calls(&mut text, numbers);
+    put_commands(&mut text, numbers);
+    put_requests(&mut text, numbers);
+    put_refusals(&mut text, numbers);
     put_keys(&mut text, numbers);
     put_saves(&mut text, numbers);
     text

@@ -1,7 +1,11 @@
 //! What workers count.
 ghost use Rattle.std.specs.Prelude.{◌≡◌, ◌-◌};
 
+use std::array;
 use std::sync::atomic::{AtomicU64, Ordering};
+
+/// Kinds of commands and of requests, and the numbers of refusals, are below this.
+pub const MOST_KINDS: usize = 128;
 
 /// What was counted since the server began.
 #[derive(Clone, Copy, Debug, Default, PartialEq, Eq, Drop)]
@@ -18,7 +22,7 @@ pub struct Counts {
     pub requests: u64,
     /// Commands or requests that walked over the whole map.
     pub walks: u64,
-    /// Commands and requests to which memory was refused.
+    /// Commands of Redis to which memory was refused.
     pub refusals: u64,
     /// Entries that a sweep took away, since their time was over.
     pub expired: u64,
@@ -81,6 +85,41 @@ impl Counter {
     }
 }
 
+/// Numbers that one thread counts up, one for each kind, and others read.
+#[derive(Drop)]
+struct Tally {
+    counters: [Counter; MOST_KINDS],
+}
+
+impl Tally {
+    /// Nothing is counted yet.
+    fn new() -> Tally {
+        Tally {
+            counters: array::from_fn(|_| Counter::new()),
+        }
+    }
+
+    /// Counts one more of this kind.
+    #[inline(always)]
+    fn add(&self, kind: usize) {
+        self.counters[kind % MOST_KINDS].add(1);
+    }
+
+    /// Returns the number of this kind.
+    fn of(&self, kind: usize) -> u64 {
+        self.counters[kind % MOST_KINDS].number()
+    }
+
+    /// Returns the number of all kinds.
+    fn sum(&self) -> u64 {
+        let mut sum = 0_u64;
+        for counter in &self.counters {
+            sum = sum.wrapping_add(counter.number());
+        }
+        sum
+    }
+}
+
 /// What one worker counted. It has more than 128 bytes, and its last ones are of no use: so the counts of two workers are never on one line
 /// of a processor's cache, and a worker counts without waiting for another.
 #[derive(Drop)]
@@ -88,10 +127,14 @@ pub struct WorkerCounts {
     clients_came: Counter,
     clients_left: Counter,
     clients_refused: Counter,
-    commands: Counter,
-    requests: Counter,
+    /// By their kinds.
+    commands: Tally,
+    /// By their kinds.
+    requests: Tally,
     walks: Counter,
     refusals: Counter,
+    /// Refusals in frames, by their numbers.
+    refused: Tally,
     expired: Counter,
     hits: Counter,
     misses: Counter,
@@ -107,10 +150,11 @@ impl WorkerCounts {
             clients_came: Counter::new(),
             clients_left: Counter::new(),
             clients_refused: Counter::new(),
-            commands: Counter::new(),
-            requests: Counter::new(),
+            commands: Tally::new(),
+            requests: Tally::new(),
             walks: Counter::new(),
             refusals: Counter::new(),
+            refused: Tally::new(),
             expired: Counter::new(),
             hits: Counter::new(),
             misses: Counter::new(),
@@ -134,16 +178,21 @@ impl WorkerCounts {
         self.clients_refused.add(1);
     }
 
-    /// A command of Redis came.
+    /// A command of Redis came, of this kind by a number of the one who counts it.
     #[inline(always)]
-    pub fn count_command(&self) {
-        self.commands.add(1);
+    pub fn count_command(&self, kind: usize) {
+        self.commands.add(kind);
     }
 
-    /// A request in a frame came.
+    /// A request in a frame came, of this kind by a number of the one who counts it.
     #[inline(always)]
-    pub fn count_request(&self) {
-        self.requests.add(1);
+    pub fn count_request(&self, kind: usize) {
+        self.requests.add(kind);
+    }
+
+    /// A request in a frame, or a frame, was refused with this number.
+    pub fn count_refused(&self, number: u8) {
+        self.refused.add(usize::from(number));
     }
 
     /// A command or a request walked over the whole map.
@@ -151,7 +200,7 @@ impl WorkerCounts {
         self.walks.add(1);
     }
 
-    /// Memory was refused to a command or a request.
+    /// Memory was refused to a command of Redis.
     pub fn count_refusal(&self) {
         self.refusals.add(1);
     }
@@ -181,14 +230,29 @@ impl WorkerCounts {
         self.last_command.load(Ordering::SeqCst)
     }
 
+    /// Returns how many commands of this kind came.
+    fn commands_of(&self, kind: usize) -> u64 {
+        self.commands.of(kind)
+    }
+
+    /// Returns how many requests of this kind came.
+    fn requests_of(&self, kind: usize) -> u64 {
+        self.requests.of(kind)
+    }
+
+    /// Returns how many refusals in frames had this number.
+    fn refused_of(&self, number: usize) -> u64 {
+        self.refused.of(number)
+    }
+
     /// Returns what was counted so far.
     pub(crate) fn so_far(&self) -> Counts {
         Counts {
             clients_came: self.clients_came.number(),
             clients_left: self.clients_left.number(),
             clients_refused: self.clients_refused.number(),
-            commands: self.commands.number(),
-            requests: self.requests.number(),
+            commands: self.commands.sum(),
+            requests: self.requests.sum(),
             walks: self.walks.number(),
             refusals: self.refusals.number(),
             expired: self.expired.number(),
@@ -205,4 +269,31 @@ pub(crate) fn sum(all: &[WorkerCounts]) -> Counts {
         counts = counts.plus(one.so_far());
     }
     counts
+}
+
+/// Returns how many commands of this kind came to all of them.
+pub(crate) fn commands_of(all: &[WorkerCounts], kind: usize) -> u64 {
+    let mut count = 0_u64;
+    for one in all {
+        count = count.wrapping_add(one.commands_of(kind));
+    }
+    count
+}
+
+/// Returns how many requests of this kind came to all of them.
+pub(crate) fn requests_of(all: &[WorkerCounts], kind: usize) -> u64 {
+    let mut count = 0_u64;
+    for one in all {
+        count = count.wrapping_add(one.requests_of(kind));
+    }
+    count
+}
+
+/// Returns how many refusals in frames of all of them had this number.
+pub(crate) fn refused_of(all: &[WorkerCounts], number: usize) -> u64 {
+    let mut count = 0_u64;
+    for one in all {
+        count = count.wrapping_add(one.refused_of(number));
+    }
+    count
 }

@@ -17,7 +17,7 @@ pub use clients::{
     CLIENT_TEXT_BYTES, ClientFact, ClientPulse, ClientText, ClientView, KillFilter, Killed,
     ServerClients, client_number, client_text,
 };
-pub use counts::{Counts, WorkerCounts};
+pub use counts::{Counts, MOST_KINDS, WorkerCounts};
 pub use password::{PASSWORD_BYTES, Password};
 pub use resident::resident_bytes;
 pub use saves::SaveFate;

@@ -3,7 +3,7 @@ ghost use Rattle.std.specs.Prelude.{◌≡◌, IfOk, None};
 ghost use Rattle.server_state.specs.Passwords.{lent};
 
 use crate::clients::ServerClients;
-use crate::counts::{Counts, WorkerCounts, sum};
+use crate::counts::{Counts, WorkerCounts, commands_of, refused_of, requests_of, sum};
 use crate::password::Password;
 use crate::saves::{SaveFate, Saves};
 use bpf_model::NoMemory;
@@ -181,5 +181,20 @@ impl ServerState {
     /// Returns what all counted since the server began.
     pub fn counts(&self) -> Counts {
         sum(&self.workers).plus(self.others.so_far())
+    }
+
+    /// Returns how many commands of this kind came since the server began.
+    pub fn commands_of(&self, kind: usize) -> u64 {
+        commands_of(&self.workers, kind)
+    }
+
+    /// Returns how many requests of this kind came since the server began.
+    pub fn requests_of(&self, kind: usize) -> u64 {
+        requests_of(&self.workers, kind)
+    }
+
+    /// Returns how many refusals in frames had this number since the server began.
+    pub fn refused_of(&self, number: usize) -> u64 {
+        refused_of(&self.workers, number)
     }
 }

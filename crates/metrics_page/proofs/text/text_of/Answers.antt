@@ -10,10 +10,13 @@ returns c =
     let front-1 : List ℕ = spec.process c.args.numbers.now in
     let so-2 = more c.new-text.result.items front-1 _ _ (spec.clients c.args.numbers.now) (spec.clients c.args.numbers.now) c.put_process.ensures.items c.put_clients.ensures.items refl in
     let front-2 : List ℕ = front-1 ++ (spec.clients c.args.numbers.now) in
-    let so-3 = more c.new-text.result.items front-2 _ _ (spec.calls c.args.numbers.now) (spec.calls c.args.numbers.now) so-2 c.put_calls.ensures.items refl in
-    let front-3 : List ℕ = front-2 ++ (spec.calls c.args.numbers.now) in
-    let so-4 = more c.new-text.result.items front-3 _ _ (spec.keys c.args.numbers.now) (spec.keys c.args.numbers.now) so-3 c.put_keys.ensures.items refl in
-    let front-4 : List ℕ = front-3 ++ (spec.keys c.args.numbers.now) in
-    let so-5 = more c.new-text.result.items front-4 _ _ (spec.saves c.args.numbers.now) (spec.saves c.args.numbers.now) so-4 c.put_saves.ensures.items refl in
-    let front-5 : List ℕ = front-4 ++ (spec.saves c.args.numbers.now) in
-    so-5 ∙ ap (λ (t : List ℕ). t ++ text c.args.numbers.now) c.new-text.ensures
+    let so-3 = more c.new-text.result.items front-2 _ _ (spec.commands c.args.numbers.now) (spec.commands c.args.numbers.now) so-2 c.put_commands.ensures.items refl in
+    let front-3 : List ℕ = front-2 ++ (spec.commands c.args.numbers.now) in
+    let so-4 = more c.new-text.result.items front-3 _ _ (spec.requests c.args.numbers.now) (spec.requests c.args.numbers.now) so-3 c.put_requests.ensures.items refl in
+    let front-4 : List ℕ = front-3 ++ (spec.requests c.args.numbers.now) in
+    let so-5 = more c.new-text.result.items front-4 _ _ (spec.refusals c.args.numbers.now) (spec.refusals c.args.numbers.now) so-4 c.put_refusals.ensures.items refl in
+    let front-5 : List ℕ = front-4 ++ (spec.refusals c.args.numbers.now) in
+    let so-6 = more c.new-text.result.items front-5 _ _ (spec.keys c.args.numbers.now) (spec.keys c.args.numbers.now) so-5 c.put_keys.ensures.items refl in
+    let front-6 : List ℕ = front-5 ++ (spec.keys c.args.numbers.now) in
+    let so-7 = more c.new-text.result.items front-6 _ _ (spec.saves c.args.numbers.now) (spec.saves c.args.numbers.now) so-6 c.put_saves.ensures.items refl in
+    so-7 ∙ ap (λ (t : List ℕ). t ++ text c.args.numbers.now) c.new-text.ensures
