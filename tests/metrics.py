@@ -31,6 +31,8 @@ COUNTERS = {f"mapd_{name}_total" for name in
             ("clients_came", "clients_refused", "commands", "requests", "walks", "refusals", "expired", "hits", "misses")}
 # What changes by itself.
 PASSING = {"mapd_resident_bytes", "mapd_uptime_seconds"}
+# Those that come in several lines, each with a label of this key.
+LABELS = {"mapd_commands_total": "command", "mapd_requests_total": "request", "mapd_refusals_total": "number"}
 TYPE = "text/plain; version=0.0.4; charset=utf-8"
 HEAD_BYTES = 4096
 # How long a reader may take, and what comes on top of that at most.
@@ -98,25 +100,50 @@ def page_of(address: str) -> str:
     return body.decode()
 
 
-def told(address: str) -> dict[str, int]:
-    """The numbers, each after a line of help and one with its type."""
-    lines = page_of(address).splitlines()
-    numbers = {}
-    for about, kind, number in zip(lines[::3], lines[1::3], lines[2::3], strict=True):
-        name, value = number.split(" ")
-        same("the line of help", re.fullmatch(rf"# HELP {name} [A-Z0-9].*\.", about) is not None, True)
+def labelled(address: str) -> dict[str, int]:
+    """The numbers with their labels, those of a name after a line of help and one with its type."""
+    numbers, names = {}, []
+    for text in re.split(r"^# HELP ", page_of(address), flags=re.MULTILINE)[1:]:
+        about, kind, *lines = text.splitlines()
+        name = about.split(" ")[0]
+        names.append(name)
+        same("the line of help", re.fullmatch(rf"{name} [A-Z0-9].*\.", about) is not None, True)
         same("the line of the type", kind, f"# TYPE {name} {'gauge' if name in GAUGES else 'counter'}")
-        numbers[name] = int(value)
-    same("the names", set(numbers), GAUGES | COUNTERS)
+        for line in lines:
+            series, value = line.split(" ")
+            label = rf'{name}\{{{LABELS[name]}="[A-Za-z0-9_|]+"\}}' if name in LABELS else name
+            same("the name and the label of a number", re.fullmatch(label, series) is not None, True)
+            numbers[series] = int(value)
+        same(f"whether {name} has its lines", len(lines) > 1 or name not in LABELS and len(lines) == 1, True)
+    same("the names", sorted(names), sorted(GAUGES | COUNTERS))
     return numbers
 
 
-def growth(address: str, calls: Callable[[], None]) -> dict[str, int]:
+def told(address: str) -> dict[str, int]:
+    """The numbers, each summed over its labels."""
+    sums: dict[str, int] = {}
+    for series, number in labelled(address).items():
+        name = series.split("{")[0]
+        sums[name] = sums.get(name, 0) + number
+    return sums
+
+
+Read = Callable[[str], dict[str, int]]
+
+
+def growth(address: str, calls: Callable[[], None], read: Read = told) -> dict[str, int]:
     """How much each number grows by these calls, if it does; but for memory and time."""
-    before = told(address)
+    before = read(address)
     calls()
-    after = told(address)
-    return {name: after[name] - before[name] for name in after if after[name] != before[name] and name not in PASSING}
+    after = read(address)
+    more = {name: number - before.get(name, 0) for name, number in after.items()}
+    return {name: number for name, number in more.items() if number and name not in PASSING}
+
+
+def by_label(address: str, name: str, calls: Callable[[], None]) -> dict[str, int]:
+    """How much the numbers of this name grow by these calls, by their labels."""
+    more = growth(address, calls, labelled)
+    return {series.split('"')[1]: number for series, number in more.items() if series.startswith(name + "{")}
 
 
 def request(method: str = "GET", target: str = "/metrics", version: str = "HTTP/1.1", fields: int = 1) -> bytes:
@@ -245,6 +272,65 @@ def expire(client: redis_wire.Client, metrics: str) -> None:
     raise Wrong("no key was swept away")
 
 
+REQUESTS = {
+    "get": wire.get(b"a"), "put": wire.put(b"a", b"xy"), "put_if_absent": b"\x12\x01a\0\1z", "remove": wire.remove(b"a"),
+    "remove_if": b"\x14\x01a\0\1z", "replace": b"\x15\x01a\0\1z", "replace_if": b"\x16\x01a\0\1z\0\1w", "compute": wire.compute(b"a", 99, None),
+    "compute_if_absent": b"\x18" + wire.compute(b"a", 99, None)[1:], "compute_if_present": b"\x19" + wire.compute(b"a", 99, b"b")[1:],
+    "merge": wire.merge(b"a", b"b", 99), "search": wire.walk(0x20, 99, None), "for_each": wire.walk(0x21, 99, b"a"),
+    "replace_all": wire.walk(0x22, 99, None), "count": b"\x23",
+}
+# Those that name the program 99, which is not there.
+WITHOUT_PROGRAM = ("compute", "compute_if_absent", "compute_if_present", "merge", "search", "for_each", "replace_all")
+
+
+def kinds_of_requests(program: Path) -> None:
+    """Each request is counted by its name, and each refusal by its number."""
+    chance = random.Random(11)
+    with started(program) as ports, wire.opened(ports.frames) as client:
+        for name, sent in REQUESTS.items():
+            often = chance.randrange(1, 9)
+            more = growth(ports.metrics, lambda: [client.ask(sent) for _ in range(often)], labelled)
+            wanted = {f'mapd_requests_total{{request="{name}"}}': often}
+            if name in WITHOUT_PROGRAM:
+                wanted['mapd_refusals_total{number="66"}'] = often
+            same(f"what {name} counts", {series: number for series, number in more.items() if series.split("{")[0] in LABELS}, wanted)
+        bad = wire.register((0, 0, 0, 0), b"\x95" + bytes(6))
+        same("a program that is refused", by_label(ports.metrics, "mapd_refusals_total", lambda: client.ask(bad)), {"11": 1})
+        same("its request", labelled(ports.metrics)['mapd_requests_total{request="register"}'], 1)
+        for number, faulty in ((60, bytes(4)), (61, wire.frame(b"\x7f")), (62, wire.frame(b"\x10\x05a")), (63, wire.frame(b"\x23\0")), (64, wire.frame(b"\0\2"))):
+            same(f"the fault {number}", by_label(ports.metrics, "mapd_refusals_total", lambda: ended_by(ports, faulty)), {str(number): 1})
+        same("all Hellos", labelled(ports.metrics)['mapd_requests_total{request="hello"}'], 6)
+
+
+def ended_by(ports: Ports, faulty: bytes) -> None:
+    """A session that ends since a frame is refused."""
+    with wire.opened(ports.frames) as client:
+        client.socket.sendall(faulty)
+        client.rest()
+
+
+def kinds_of_commands(program: Path) -> None:
+    """Each command is counted by its name, in the page and in INFO."""
+    chance = random.Random(12)
+    rows = {"get": "GET a", "set": "SET a b", "mget": "MGET a b", "client|id": "CLIENT ID", "config|get": "CONFIG GET save", "config": "CONFIG foo",
+            "append": "APPEND a", "unknown": "NONE", "slowlog|len": "SLOWLOG LEN", "dbsize": "DBSIZE", "eval": "EVAL"}
+    with started(program, "--workers", "2") as ports, redis_wire.Client(ports.commands) as one, redis_wire.Client(ports.commands) as other:
+        sent = {name: chance.randrange(1, 9) for name in rows}
+
+        def ask() -> None:
+            for name, often in sent.items():
+                for _ in range(often):
+                    chance.choice((one, other)).ask(*rows[name].split(" "))
+
+        same("the commands", by_label(ports.metrics, "mapd_commands_total", ask), sent)
+        told_by_info = redis_wire.text_of(one.ask("INFO", "commandstats")).decode()
+        lines = dict(re.findall(r"^cmdstat_(\S+):calls=(\d+)\r$", told_by_info, re.MULTILINE))
+        del sent["unknown"]
+        same("INFO commandstats", {name: int(number) for name, number in lines.items()}, {**sent, "info": 1})
+        same("whether INFO has it without a word", b"cmdstat_" in redis_wire.text_of(one.ask("INFO")), False)
+        same("whether INFO ALL has it", b"cmdstat_" in redis_wire.text_of(one.ask("INFO", "ALL")), True)
+
+
 def numbers_of_saves_and_memory(program: Path) -> None:
     """The time of a save, and memory that is refused."""
     with tempfile.TemporaryDirectory() as folder, started(program, "--keep", f"{folder}/kept.db", "--memory", "1") as ports:
@@ -254,7 +340,12 @@ def numbers_of_saves_and_memory(program: Path) -> None:
             saved = told(ports.metrics)
             same("the time of the save", began - 1 <= saved["mapd_last_save_seconds"] <= int(time.time()), True)
             same("a save that fails", saved["mapd_save_failing"], 0)
+            same("errors so far", redis_wire.text_of(client.ask("INFO", "errorstats")), b"# Errorstats\r\n\r\n")
             more = growth(ports.metrics, lambda: same("a SET past the memory", client.ask("SET", "key", "value")[:4], b"-OOM"))
+            same("the error in INFO", redis_wire.text_of(client.ask("INFO", "errorstats")), b"# Errorstats\r\nerrorstat_OOM:count=1\r\n\r\n")
+            same("the label of refusals", by_label(ports.metrics, "mapd_refusals_total", lambda: client.ask("MSET", "key", "value")), {"OOM": 1})
+            with wire.opened(ports.frames) as frames:
+                same("the number of refusals", by_label(ports.metrics, "mapd_refusals_total", lambda: frames.ask(wire.put(b"key", b"value"))), {"9": 1})
             same("refusals", more.get("mapd_refusals_total"), 1)
             same("entries", more.get("mapd_entries"), None)
 
@@ -300,8 +391,8 @@ def prometheus_reads_it(program: Path) -> None:
         same("what promtool says", (run.returncode, run.stderr), (0, ""))
 
 
-PARTS = [pages_and_heads, pieces_and_ends, readers_that_hang, numbers_after_calls, numbers_of_saves_and_memory, the_server_goes_on,
-         ports_and_passes, prometheus_reads_it]
+PARTS = [pages_and_heads, pieces_and_ends, readers_that_hang, numbers_after_calls, kinds_of_requests, kinds_of_commands, numbers_of_saves_and_memory,
+         the_server_goes_on, ports_and_passes, prometheus_reads_it]
 
 
 if __name__ == "__main__":

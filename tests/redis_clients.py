@@ -1,7 +1,7 @@
 #!/usr/bin/env python3
 """The clients of the built mapd, as CLIENT LIST shows them and CLIENT KILL lets them go: lists over four workers with 200 clients of both
-ports; idle and busy clients that are let go, and only these; one that lets itself go and is told first; names and libraries; and replies
-to wrong words beside those of a redis-server, if one is installed.
+ports; idle and busy clients that are let go, and only these; one that lets itself go and is told first; names and libraries; replies
+to wrong words beside those of a redis-server, if one is installed; and the commands that SLOWLOG shows.
 
 By hand, after `rt run` in crates/mapd: python3 tests/redis_clients.py. --program names another server, --only a part. By .ci/run."""
 from __future__ import annotations
@@ -9,9 +9,11 @@ from __future__ import annotations
 import contextlib
 import shutil
 import sys
+import tempfile
 import threading
 import time
 from pathlib import Path
+from typing import NamedTuple
 
 sys.path.insert(0, str(Path(__file__).resolve().parent))
 sys.dont_write_bytecode = True
@@ -212,7 +214,115 @@ def words_as_redis(program: Path) -> None:
         other.end()
 
 
-PARTS = [lists_agree, names_are_shown, idle_clients_are_let_go, busy_clients_are_let_go, deaf_clients_are_let_go, own_end, words_as_redis]
+class Slow(NamedTuple):
+    """A command that SLOWLOG shows."""
+
+    number: int
+    time: int
+    microseconds: int
+    words: list[bytes]
+    address: bytes
+    name: bytes
+
+
+def slow_of(client: Client, *words: resp.Word) -> list[Slow]:
+    """What SLOWLOG GET shows."""
+    entries = []
+    for entry in resp.members_of(client.ask("SLOWLOG", "GET", *words)):
+        number, moment, took, texts, address, name = resp.members_of(entry)
+        same("the numbers of an entry", number[:1] + moment[:1] + took[:1], b":::")
+        entries.append(Slow(int(number[1:]), int(moment[1:]), int(took[1:]), [resp.text_of(text) for text in resp.members_of(texts)],
+                            resp.text_of(address), resp.text_of(name)))
+    return entries
+
+
+# Commands that take no time; each is noted if all are.
+QUICK = [
+    ["CLIENT", "SETNAME", "me"], ["SET", "a", "b"], ["get", "a"], ["GET", "a" * 64], ["MGET", *"abcdefg"], ["PING"], ["ECHO", b"\0\r\n\xff"],
+    ["SET", "a", ""], ["SLOWLOG", "LEN"], ["CLIENT", "SETNAME", ""], ["DEL", "a"],
+]
+
+
+def quick_ones(client: Client) -> list[tuple[int, list[bytes], bytes, bool, bool, bool]]:
+    """Makes these commands, and gives what is shown of them, but for what differs from run to run; the last ones first."""
+    client.ask("SLOWLOG", "RESET")
+    for words in QUICK:
+        client.ask(*words)
+    now = time.time()
+    shown = slow_of(client, -1)
+    own = own_address(client).encode()
+    return [(slow.number, slow.words, slow.name, slow.address == own, abs(slow.time - now) < 10, slow.microseconds < 1_000_000) for slow in shown]
+
+
+def slow_commands_are_shown(program: Path) -> None:
+    """If all commands are noted, SLOWLOG shows them as redis-server does; and those of all workers."""
+    with started(program, "--slowlog-microseconds", "0", "--workers", "4") as server, Client(server.address) as ours:
+        shown = quick_ones(ours)
+        wanted = [[resp.as_word(word) for word in words] for words in [["SLOWLOG", "RESET"], *QUICK]]
+        same("the words", [words for _, words, *_ in reversed(shown)], wanted)
+        same("the names", [name for _, _, name, *_ in reversed(shown)], [b"", *[b"me"] * (len(QUICK) - 2), b"", b""])
+        same("the numbers", [number for number, *_ in reversed(shown)], list(range(len(shown))))
+        same("addresses and times", {row[3:] for row in shown}, {(True, True, True)})
+        if shutil.which("redis-server"):
+            other = resp.Redis(["--slowlog-log-slower-than", "0"])
+            try:
+                with Client(other.address) as theirs:
+                    same("what redis-server shows", quick_ones(theirs), shown)
+            finally:
+                other.end()
+        with Client(server.address) as second, Client(server.address) as third:
+            ours.ask("SLOWLOG", "RESET")
+            for client in (second, third):
+                client.ask("GET", own_address(client))
+            same("what another worker shows", [slow.address for slow in slow_of(ours, 2)], [own_address(client).encode() for client in (third, second)])
+    rings_and_cuts(program)
+    quick_and_secret(program)
+
+
+def rings_and_cuts(program: Path) -> None:
+    """The latest 128 commands are kept, and the beginning of their words."""
+    with started(program, "--slowlog-microseconds", "0") as server, Client(server.address) as client:
+        for number in range(300):
+            client.ask("GET", str(number))
+        same("how many are kept", client.ask("SLOWLOG", "LEN"), resp.integer(128))
+        shown = slow_of(client, -1)
+        same("the latest", [slow.words[-1] for slow in shown], [b"LEN", *[b"%d" % number for number in range(299, 172, -1)]])
+        same("their numbers", [slow.number for slow in shown], list(range(300, 172, -1)))
+        same("the usual number of them", len(slow_of(client)), 10)
+        same("three of them", [slow.number for slow in slow_of(client, 3)], [302, 301, 300])
+        client.ask("SLOWLOG", "RESET")
+        client.ask("MGET", *["key"] * 20)
+        client.ask("SET", "a", b"b" * 1000)
+        cut, long, reset = slow_of(client)
+        same("a long word", cut.words, [b"SET", b"a", b"b" * 64 + b"... (936 more bytes)"])
+        same("many words", long.words, [b"MGET", *[b"key"] * 6, b"... (14 more arguments)"])
+        same("the one that forgot the others", reset.words, [b"SLOWLOG", b"RESET"])
+        same("its number", cut.number - reset.number, 2)
+
+
+def quick_and_secret(program: Path) -> None:
+    """No command with a password is noted, nor one that is wrong or quick; a slow one is."""
+    with tempfile.TemporaryDirectory() as folder:
+        secret = Path(folder) / "secret"
+        secret.write_text("word\n")
+        with started(program, "--slowlog-microseconds", "0", "--password-file", str(secret)) as server, Client(server.address) as client:
+            for words in (["AUTH", "word"], ["AUTH", "default", "word"], ["HELLO", "2", "AUTH", "default", "word"], ["GET"], ["NONE"]):
+                client.ask(*words)
+            same("commands that are not noted", slow_of(client), [])
+        with started(program, "--slowlog-microseconds", "20000", "--keep", f"{folder}/kept.db") as server, Client(server.address) as client:
+            client.ask("GET", "a")
+            for _ in range(50):
+                client.ask("SAVE")
+            shown = slow_of(client, -1)
+            same("what is slow", {b" ".join(slow.words) for slow in shown} & {b"SAVE"}, {b"SAVE"})
+            same("how slow it is", min(slow.microseconds for slow in shown) >= 20000, True)
+    with started(program) as server, Client(server.address) as client:
+        for words in QUICK:
+            client.ask(*words)
+        same("what is shown without the option", (slow_of(client), client.ask("SLOWLOG", "LEN")), ([], resp.integer(0)))
+
+
+PARTS = [lists_agree, slow_commands_are_shown, names_are_shown, idle_clients_are_let_go, busy_clients_are_let_go, deaf_clients_are_let_go, own_end, words_as_redis]
 
 
 if __name__ == "__main__":

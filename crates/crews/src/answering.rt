@@ -12,6 +12,7 @@ ghost use Rattle.crews.specs.Lives.{known};
 ghost use Rattle.crews.specs.Turns.{TellsLast, LeavesAt, LeavesTalk, SaysMore};
 
 use crate::clients::Parting;
+use crate::counting::{count_answer, count_end, count_request};
 use crate::serving::Serving;
 use crate::talk::Talk;
 use crate::tokens::Tokens;
@@ -128,8 +129,10 @@ pub fn answer_frames<'a, 'r, H: Threads + Wait + Sync, G: Gate + Sync>(
     let number = room.number;
     let counts = room.counts;
     let answer = |serving: &mut Serving<'_>, hello, request: &Request, value: &mut Value| {
-        counts.count_request();
-        serving.answer(worker, number, hello, request, value)
+        count_request(counts, request);
+        let answer = serving.answer(worker, number, hello, request, value);
+        count_answer(counts, &answer);
+        answer
     };
     room.serving.lend(tokens);
     room.conversation.resume(feeder);
@@ -142,6 +145,7 @@ pub fn answer_frames<'a, 'r, H: Threads + Wait + Sync, G: Gate + Sync>(
     );
     room.conversation.resume(feeder);
     room.serving.lend(tokens);
+    count_end(counts, &taken);
     leaving_after(owed, taken)
 }
 

@@ -38,6 +38,7 @@ mapd_options wanted =
     ∷ range_option (codes "memory") (pos 65535)
     ∷ text_option (codes "password-file") false
     ∷ text_option (codes "metrics") false
+    ∷ size_option (codes "slowlog-microseconds")
     ∷ []
 
 -- a command without subcommands
@@ -52,8 +53,8 @@ gives_redis words = is_empty (fault_of (mapd false) words) && is_some (first_of 
 abbrev pub reader_of : List (List ℕ) → App
 reader_of words = mapd (not (gives_redis words))
 
--- what the options ask for: each is given, or has its default; the addresses, the number of sessions, the idle seconds, the memory and the
--- files have none
+-- what the options ask for: each is given, or has its default; the addresses, the number of sessions, the idle seconds, the memory, the files
+-- and the microseconds have none
 pub record AsksFor (rows : List Row) (asked : MapdWords) : Type 0 where
   pub listen : option_map string_bytes asked.listen ≡ first_of (codes "listen") rows
   pub redis : option_map string_bytes asked.redis ≡ first_of (codes "redis") rows
@@ -69,6 +70,7 @@ pub record AsksFor (rows : List Row) (asked : MapdWords) : Type 0 where
   pub keep_seconds : asked.keep_seconds ≡ given_size rows (codes "keep-seconds") 1
   pub password_file : option_map string_bytes asked.password_file ≡ first_of (codes "password-file") rows
   pub metrics : option_map string_bytes asked.metrics ≡ first_of (codes "metrics") rows
+  pub slowlog_microseconds : asked.slowlog_microseconds ≡ option_and_then spelled_size (one_of (codes "slowlog-microseconds") rows)
 
 -- what the words ask for, of which the first is the program's name: clap finds no fault in them, and they ask for this
 abbrev pub AsksServer : List (List ℕ) → MapdWords → Type 0

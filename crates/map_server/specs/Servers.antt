@@ -28,8 +28,9 @@ pub record HasPorts (protocols : Protocols) (ports : Ports) : Type 0 where
   pub commands : is_some ports.commands ≡ protocols.commands
 
 -- the map has the stripes that are asked for; the crews are those that are asked for; each of them may serve as many sessions
--- as are asked for, within the limits that are; clients speak the protocols of the ports that are, and may load as many scripts
--- as programs; and the map has a keeper if there is a file, and a watcher if there is a port for the numbers
+-- as are asked for, within the limits that are, which also say which commands are kept for SLOWLOG; clients speak the protocols of the ports
+-- that are, and may load as many scripts as programs; and the map has a keeper if there is a file, and a watcher if there is a port for the
+-- numbers
 pub record IsAsked (asked : MapdWords) (server : Server) : Type 0 where
   pub stripes : stripes_of server.map ≡ asked.stripes
   pub crews : AreAsked asked.workers asked.team server.crews.items
@@ -37,6 +38,7 @@ pub record IsAsked (asked : MapdWords) (server : Server) : Type 0 where
   pub sessions : server.quotas.most ≡ asked.sessions
   pub clients : server.limits.clients ≡ asked.clients
   pub idle : server.limits.idle ≡ asked.idle
+  pub slow : server.limits.slow ≡ asked.slowlog_microseconds
   pub protocols : server.protocols ≡ protocols_of asked
   pub scripts : server.scripts ≡ asked.programs
   pub keeper : is_some server.keeper ≡ is_some asked.keep

@@ -10,19 +10,22 @@ use std::sync::atomic::{AtomicBool, AtomicU64, Ordering};
 use std::sync::{Mutex, Wait};
 use std::time::Duration;
 
-/// How many clients are served at once, and how long one may be silent.
+/// How many clients are served at once, how long one may be silent, and how long one of its commands may take before it is kept.
 #[derive(Clone, Copy, Debug, PartialEq, Eq)]
 pub struct Limits {
     /// How many clients may be there at once, over all workers. One more is told that there is no room.
     pub clients: u64,
     /// The number of seconds after which a client is let go if nothing comes from it, or it takes nothing; none: never.
     pub idle: Option<u64>,
+    /// From how many microseconds on a command of Redis is kept for SLOWLOG; none: none is.
+    pub slow: Option<u64>,
 }
 
 /// No limits.
 pub(crate) const NO_LIMITS: Limits = Limits {
     clients: u64::MAX,
     idle: None,
+    slow: None,
 };
 
 /// What follows from a failed accept.

@@ -5,11 +5,18 @@ ghost use Rattle.map_server.specs.Readers.{FitsRoom};
 use crate::keeping::Bell;
 use crate::sockets::hear_out;
 use crate::wall_clock::WallClock;
+use arrayvec::ArrayVec;
 use bin_stripes::{Pass, StripedMap};
+use crews::request_name;
+use itoa::Buffer;
 use key_walks::count_all;
-use metrics_page::{Asked, HEAD_BYTES, Numbers, answer, asked_by};
+use metrics_page::{
+    Asked, HEAD_BYTES, Label, Labelled, MOST_COMMANDS, MOST_REFUSALS, MOST_REQUESTS, Numbers,
+    answer, asked_by,
+};
 use mio::net::TcpListener as Watched;
-use server_state::{ServerState, resident_bytes};
+use redis_service::{COMMAND_KINDS, command_text};
+use server_state::{MOST_KINDS, ServerState, resident_bytes};
 use std::io::{ErrorKind, Read, Write};
 use std::net::{TcpListener, TcpStream};
 use std::rt::Clock;
@@ -77,6 +84,56 @@ fn hear(mut stream: &TcpStream, room: &mut [u8], most: Duration) -> Heard
     }
 }
 
+/// A number with this label, as far as there is room for it.
+fn labelled(label: &[u8], number: u64) -> Labelled {
+    let mut text = Label::new();
+    let _ = text.try_extend_from_slice(label);
+    Labelled {
+        label: text,
+        number,
+    }
+}
+
+/// How many commands came, by their names; without a name those that nobody knows.
+fn commands(state: &ServerState) -> ArrayVec<Labelled, MOST_COMMANDS> {
+    let mut all = ArrayVec::new();
+    let _ = all.try_push(labelled(b"unknown", state.commands_of(0)));
+    for noted in 1..=COMMAND_KINDS {
+        let name = command_text(noted as u64);
+        let _ = all.try_push(labelled(name.as_slice(), state.commands_of(noted)));
+    }
+    all
+}
+
+/// How many requests in frames came, by their names.
+fn requests(state: &ServerState) -> ArrayVec<Labelled, MOST_REQUESTS> {
+    let mut all = ArrayVec::new();
+    for kind in 0..MOST_REQUESTS {
+        if let Some(name) = request_name(kind) {
+            let _ = all.try_push(labelled(name.as_bytes(), state.requests_of(kind)));
+        }
+    }
+    all
+}
+
+/// The refusal that each server tells of, though it may never have come.
+const NO_MEMORY: usize = 9;
+
+/// How many requests in frames were refused, by the numbers that came, and how many commands were refused memory.
+fn refusals(state: &ServerState, commands: u64) -> ArrayVec<Labelled, MOST_REFUSALS> {
+    let mut all = ArrayVec::new();
+    let _ = all.try_push(labelled(b"OOM", commands));
+    for number in 0..MOST_KINDS {
+        let count = state.refused_of(number);
+        if count > 0 || number == NO_MEMORY {
+            let mut digits = Buffer::new();
+            let label = digits.format(number).as_bytes();
+            let _ = all.try_push(labelled(label, count));
+        }
+    }
+    all
+}
+
 /// Answers readers of the server's numbers, one after the other. It has nothing that clients of the map wait for: a reader that hangs
 /// delays other readers alone, two seconds at most.
 #[derive(Drop)]
@@ -114,10 +171,10 @@ impl<'a, H: Wait + Clock> Watcher<'a, H> {
             clients: counts.clients_here(),
             clients_came: counts.clients_came,
             clients_refused: counts.clients_refused,
-            commands: counts.commands,
-            requests: counts.requests,
+            commands: commands(state),
+            requests: requests(state),
             walks: counts.walks,
-            refusals: counts.refusals,
+            refusals: refusals(state, counts.refusals),
             expired: counts.expired,
             hits: counts.hits,
             misses: counts.misses,

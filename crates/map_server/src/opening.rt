@@ -119,6 +119,7 @@ fn server_of(
     let limits = Limits {
         clients: asked.clients,
         idle: asked.idle,
+        slow: asked.slowlog_microseconds,
     };
     Ok(Server {
         map,

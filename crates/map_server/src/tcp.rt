@@ -22,7 +22,7 @@ use devices::Sink;
 use map_keeper::Shared;
 use mio::net::TcpListener;
 use mio::{Poll, Waker};
-use server_state::{Password, ServerState};
+use server_state::{Password, ServerState, SlowLog};
 use std::alloc::Global;
 use std::io;
 use std::net::Net;
@@ -256,6 +256,22 @@ fn nobody_served() -> Served
     }
 }
 
+/// What all threads know of a server that began at this time, and keeps commands for SLOWLOG from this number of microseconds on, if there
+/// is one. `NoMemory` if a request for memory was refused.
+fn state_of(
+    alloc: Global,
+    workers: u64,
+    keeps: bool,
+    began: u64,
+    slow: Option<u64>,
+) -> Result<ServerState, NoMemory> {
+    let state = ServerState::new(alloc, workers, keeps, began)?;
+    match slow {
+        None => Ok(state),
+        Some(least) => Ok(state.with_slow_log(SlowLog::from(alloc, least)?)),
+    }
+}
+
 /// Serves clients of the ports until each worker has ended. Meanwhile it keeps the map, if it is kept, and answers readers of the server's
 /// numbers, if there is a port for them. Standard error is told what goes wrong, and given back.
 pub(crate) fn serve_ports<'a, H: Threads + Wait + Clock + Sync, E: Sink + Send>(
@@ -275,7 +291,7 @@ pub(crate) fn serve_ports<'a, H: Threads + Wait + Clock + Sync, E: Sink + Send>(
 {
     let began = WallClock::new(rt).look();
     let workers = ready.crews.len() as u64;
-    let Ok(state) = ServerState::new(alloc, workers, kept.is_some(), began) else {
+    let Ok(state) = state_of(alloc, workers, kept.is_some(), began, ready.limits.slow) else {
         return (nobody_served(), errors);
     };
     let Ready {

@@ -47,6 +47,8 @@ pub struct MapdWords {
     pub password_file: Option<String>,
     /// The address of the port whose clients read the server's numbers over HTTP; none: there is no such port.
     pub metrics: Option<String>,
+    /// From how many microseconds on a command of Redis is shown by SLOWLOG; none: none is.
+    pub slowlog_microseconds: Option<u64>,
 }
 
 /// Returns 1 if it is so, else 0.
@@ -306,6 +308,12 @@ fn mapd_command<'a>(alloc: Global, wanted: bool) -> Result<clap::Command<'a>, Al
             "HOST:PORT",
             false,
             "Address at which Prometheus reads the server's numbers, as GET /metrics [default: none]",
+        ))?
+        .arg(size_option(
+            alloc,
+            "slowlog-microseconds",
+            "NUMBER",
+            "Microseconds from which on SLOWLOG shows a command of Redis, 0 to 65535 [default: never]",
         ))
 }
 
@@ -356,6 +364,7 @@ fn words_of(alloc: Global, matches: &ArgMatches<'_>) -> Result<MapdWords, NoMemo
         keep_seconds: u64::from(given_size(matches, "keep-seconds", KEEP_SECONDS_DEFAULT)),
         password_file: given_text(alloc, matches, "password-file")?,
         metrics: given_text(alloc, matches, "metrics")?,
+        slowlog_microseconds: widened(given_number(matches, "slowlog-microseconds")),
     })
 }
 

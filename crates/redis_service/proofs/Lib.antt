@@ -15,4 +15,5 @@ pub mod WalkLemmas
 pub mod SweepLemmas
 pub mod ProgramLemmas
 pub mod CountLemmas
+pub mod CountedLemmas
 mod LockLemmas

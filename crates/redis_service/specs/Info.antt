@@ -1,6 +1,7 @@
 -- INFO: sections of lines, each with an empty line after it.
-use Rattle.std.specs.Prelude.{ℕ, Bool, true, false, ◌||◌, List, [], ◌∷◌, ◌++◌, decimal, codes, if◌then◌else◌}
+use Rattle.std.specs.Prelude.{ℕ, Bool, true, false, ◌||◌, List, [], ◌∷◌, ◌++◌, flat_map, decimal, nat_eq, codes, if◌then◌else◌}
 use Rattle.std.specs.List.{list_any}
+use Rattle.redis_service.specs.Counted.{Calls, calls_line}
 use Rattle.redis_service.specs.declared.info.Info.{Info}
 use Rattle.redis_service.specs.Lines.{line_end}
 use Rattle.redis_service.specs.Server.{joined, is}
@@ -37,6 +38,17 @@ stats info =
     ∷ number_line (codes "expired_keys:") info.expired ∷ number_line (codes "keyspace_hits:") info.hits
     ∷ number_line (codes "keyspace_misses:") info.misses ∷ line_end ∷ [])
 
+-- the commands that came, by their kinds
+abbrev pub command_stats : List Calls → List ℕ
+command_stats calls = joined (codes "# Commandstats\r\n" ∷ flat_map calls_line calls ∷ line_end ∷ [])
+
+-- memory was refused, if this isn't 0
+abbrev pub refusal_line : ℕ → List ℕ
+refusal_line refusals = if nat_eq refusals 0 then [] else number_line (codes "errorstat_OOM:count=") refusals
+
+abbrev pub error_stats : Info → List ℕ
+error_stats info = joined (codes "# Errorstats\r\n" ∷ refusal_line info.refusals ∷ line_end ∷ [])
+
 abbrev pub replication : List ℕ
 replication = codes "# Replication\r\nrole:master\r\nconnected_slaves:0\r\n\r\n"
 
@@ -47,6 +59,10 @@ keyspace info = joined (codes "# Keyspace\r\ndb0:keys=" ∷ decimal info.keys �
 abbrev pub names : List ℕ → List ℕ → Bool
 names name word = is name word || is (codes "all") word || is (codes "default") word || is (codes "everything") word
 
+-- the word names the section of this name, which is none of the default ones, or all of them
+abbrev pub names_more : List ℕ → List ℕ → Bool
+names_more name word = is name word || is (codes "all") word || is (codes "everything") word
+
 -- the section of this name is asked for: by a word, or since there is none
 abbrev pub is_shown : List ℕ → List (List ℕ) → Bool
 is_shown name [] = true
@@ -55,10 +71,14 @@ is_shown name (word ∷ words) = list_any (names name) (word ∷ words)
 abbrev pub shown : List ℕ → List (List ℕ) → List ℕ → List ℕ
 shown name words section = if is_shown name words then section else []
 
+abbrev pub shown_more : List ℕ → List (List ℕ) → List ℕ → List ℕ
+shown_more name words section = if list_any (names_more name) words then section else []
+
 -- the sections that the words ask for
-unfoldable pub info_text : List (List ℕ) → Info → List ℕ
-info_text words info =
+unfoldable pub info_text : List (List ℕ) → Info → List Calls → List ℕ
+info_text words info calls =
     joined (shown (codes "server") words (server info) ∷ shown (codes "clients") words (clients info)
     ∷ shown (codes "memory") words (memory info) ∷ shown (codes "persistence") words (persistence info)
     ∷ shown (codes "stats") words (stats info) ∷ shown (codes "replication") words replication
+    ∷ shown_more (codes "commandstats") words (command_stats calls) ∷ shown (codes "errorstats") words (error_stats info)
     ∷ shown (codes "keyspace") words (keyspace info) ∷ [])

@@ -9,11 +9,12 @@ pub mod Planned
 pub mod States
 pub mod Answers
 pub mod Server
+pub mod Counted
 pub mod Info
 pub mod Clients
+pub mod Connections
 pub mod Slowlogs
 pub mod Saving
-pub mod Connections
 pub mod Walks
 pub mod Walked
 pub mod Sweeps

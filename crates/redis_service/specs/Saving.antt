@@ -10,9 +10,10 @@ use Rattle.redis_commands.specs.declared.command.LastSave.TheVariants.{Always}
 use Rattle.redis_commands.specs.Commands.{ServerAsked}
 use Rattle.redis_commands.specs.Commands.ServerAsked.{Info, Save, SaveLater, LastSaved, Shutdown, Clients, Slowlog}
 use Rattle.redis_service.specs.declared.info.Info.{Info as Numbers}
+use Rattle.redis_service.specs.Counted.{Calls}
 use Rattle.redis_service.specs.Info.{info_text}
 use Rattle.redis_service.specs.Clients.{AnswersClients}
-use Rattle.redis_service.specs.Slowlogs.{slowlog_line}
+use Rattle.redis_service.specs.Slowlogs.{AnswersSlowlog}
 use Rattle.redis_service.specs.States.{TalkState}
 use Rattle.redis_service.specs.Connections.{Says, SaysIfRoom}
 use Rattle.redis_service.specs.Texts.{ok_line, count_line}
@@ -36,7 +37,7 @@ later_line false = no_file_line
 -- INFO counts the keys first
 abbrev pub AnswersInfo : PassState → List (List ℕ) → List ℕ → PassState → Type 0
 AnswersInfo old sections written new =
-    (numbers : Numbers) × CountsAll old numbers.keys new × SaysIfRoom (value_bytes (info_text sections numbers)) written
+    (numbers : Numbers) × (calls : List Calls) × CountsAll old numbers.keys new × SaysIfRoom (value_bytes (info_text sections numbers calls)) written
 
 -- SHUTDOWN: nothing more is said, and the talk is over; SAVE is refused if the server keeps no file
 abbrev pub AnswersShutdown : TalkState → PassState → LastSave → List ℕ → TalkState → PassState → Type 0
@@ -51,4 +52,4 @@ AnswersServer talk old SaveLater written next new = (keeps : Bool) × Says talk 
 AnswersServer talk old LastSaved written next new = (seconds : ℕ) × Says talk old (count_line seconds) written next new
 AnswersServer talk old (Shutdown save) written next new = AnswersShutdown talk old save written next new
 AnswersServer talk old (Clients asked) written next new = AnswersClients talk asked written next × (new ≡ old)
-AnswersServer talk old (Slowlog asked) written next new = Says talk old (slowlog_line asked) written next new
+AnswersServer talk old (Slowlog asked) written next new = AnswersSlowlog asked written × (next ≡ talk) × (new ≡ old)

@@ -24,11 +24,14 @@ use std::sync::Wait;
 /// What is said if nobody has the address.
 const NO_CLIENT: &[u8] = b"ERR No such client";
 
+/// The name of a command has at most this many bytes.
+pub const COMMAND_TEXT_BYTES: usize = 24;
+
 /// The name of a command, of at most two words.
-type CommandText = ArrayVec<u8, 32>;
+pub type CommandText = ArrayVec<u8, COMMAND_TEXT_BYTES>;
 
 /// A number, in decimal.
-fn decimal_of(number: u64) -> ArrayVec<u8, 20>
+pub(crate) fn decimal_of(number: u64) -> ArrayVec<u8, 20>
     ensures { result.items ≡ decimal number }
 {
     let mut text = ArrayVec::new();
@@ -52,8 +55,8 @@ fn version(has_commands: bool) -> &'static [u8]
     if has_commands { b"2" } else { b"0" }
 }
 
-/// The name of the command that was noted, or `NULL`.
-fn command_text(command: u64) -> CommandText {
+/// The name of the command that is noted by this number: its kind from 1 on. `NULL` if there is no such kind.
+pub fn command_text(command: u64) -> CommandText {
     let mut text = ArrayVec::new();
     let named = match command.checked_sub(1) {
         Some(kind) => kind_name(kind as usize),
@@ -69,7 +72,7 @@ fn command_text(command: u64) -> CommandText {
 }
 
 /// Adds bytes to a text. `NoMemory` if a request for memory was refused.
-fn add(text: &mut Vec<u8>, bytes: &[u8]) -> Result<(), NoMemory>
+pub(crate) fn add(text: &mut Vec<u8>, bytes: &[u8]) -> Result<(), NoMemory>
     ensures { IfOk result (λ _. text.new.items ≡ text.old.items ++ bytes.now) }
 {
     match text.extend_from_slice(bytes) {

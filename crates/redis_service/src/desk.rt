@@ -26,7 +26,7 @@ use crate::reply::Replied;
 use crate::room::Room;
 use crate::saving::{later_line, numbers, put_info, save, save_later, save_line, shut_down};
 use crate::several::{count_each, count_of, get_each, put_each, remove_each};
-use crate::slowlogs::slowlog_line;
+use crate::slowlogs::{answer_slowlog, begin, end};
 use crate::talk::RedisTalk;
 use crate::walks::{Ground, answer_walk};
 use bin_stripes::{Pass, StripedMap};
@@ -296,8 +296,9 @@ impl<'a, 's> RedisDesk<'a, 's> {
             × AnswersInfo pass.old (texts sections.now) written pass.new }
     {
         let keys = count_all(moment.rt, self.map, pass);
-        let info = numbers(self.state.server, moment.time, keys);
-        put_info(self.alloc, sections, &info, sink)
+        let server = self.state.server;
+        let info = numbers(server, moment.time, keys);
+        put_info(self.alloc, sections, &info, server, sink)
     }
 
     /// Answers a command of the server.
@@ -334,7 +335,9 @@ impl<'a, 's> RedisDesk<'a, 's> {
                 server.clients().asks(moment.rt, number, self.noted);
                 answer_clients(moment, self.alloc, server.clients(), talk, &command, sink)
             }
-            ServerCommand::Slowlog(command) => slowlog_line(command).send(&[], sink),
+            ServerCommand::Slowlog(command) => {
+                answer_slowlog(moment.rt, self.alloc, server.slow(), command, sink)
+            }
         }
     }
 
@@ -363,7 +366,9 @@ impl<'a, 's> RedisDesk<'a, 's> {
             Command::OnKeys { keys, act } => self.answer_keys(moment, pass, keys, act, sink),
             Command::SetEach { words } => {
                 let at = self.at(moment.time);
-                put_each(moment.rt, &at, pass, &mut self.room, words).send(&[], sink)
+                let replied = put_each(moment.rt, &at, pass, &mut self.room, words);
+                count_refused(self.state.counts, replied);
+                replied.send(&[], sink)
             }
             Command::Connection(command) => {
                 let sent = answer_connection(self.alloc, talk, &command, sink);
@@ -408,9 +413,16 @@ impl<'a, 's> RedisDesk<'a, 's> {
         ensures answers { (written : List ℕ) × Sends result (W.state sink.old) (W.state sink.new) written
             × AnswersWords moment.now.time talk.old pass.old (texts words.now) written talk.new pass.new }
     {
-        self.state.counts.count_command();
-        match read(&mut self.noted, talk, words, moment.time) {
-            Ok(command) => self.answer_command(moment, pass, talk, &command, sink),
+        let read = read(&mut self.noted, talk, words, moment.time);
+        self.state.counts.count_command(self.noted as usize);
+        match read {
+            Ok(command) => {
+                let server = self.state.server;
+                let timer = begin(server.slow(), &command);
+                let sent = self.answer_command(moment, pass, talk, &command, sink);
+                end(timer, moment, server, talk, words);
+                sent
+            }
             Err(fault) => refuse(talk, &fault, sink),
         }
     }

@@ -1,9 +1,10 @@
 //! What `INFO` says.
-ghost use Rattle.std.specs.Prelude.{◌≡◌, ◌≤◌, ◌||◌, [], List, length, IfOk, if◌then◌else◌};
+ghost use Rattle.std.specs.Prelude.{◌≡◌, ◌≤◌, ◌||◌, [], List, length, flat_map, IfOk, if◌then◌else◌};
 ghost use Rattle.std.specs.List.{list_any};
 ghost use Rattle.redis_commands.specs.Commands.{texts};
 ghost use Rattle.redis_service.specs.Info as spec;
-ghost use Rattle.redis_service.specs.Info.{number_line, status_line, names, is_shown, shown, info_text};
+ghost use Rattle.redis_service.specs.Counted.{Calls, calls_line};
+ghost use Rattle.redis_service.specs.Info.{number_line, status_line, refusal_line, names, names_more, is_shown, shown, shown_more, info_text};
 
 use crate::server::{is, joined};
 use arrayvec::ArrayVec;
@@ -24,6 +25,8 @@ pub struct Info {
     pub clients_refused: u64,
     /// How many commands came.
     pub commands: u64,
+    /// How many commands were refused memory.
+    pub refusals: u64,
     /// The bytes of memory that the process has; 0 if the system doesn't say.
     pub memory: u64,
     /// How many entries sweeps took away.
@@ -153,6 +156,31 @@ fn stats(alloc: Global, info: &Info) -> Result<Vec<u8>, NoMemory>
     )
 }
 
+/// Returns the section about the commands, with these lines.
+fn command_stats(alloc: Global, calls: &[u8]) -> Result<Vec<u8>, NoMemory>
+    ensures { (all : List Calls) → calls.now ≡ flat_map calls_line all → IfOk result (λ text. text.items ≡ spec.command_stats all) }
+{
+    joined(alloc, &[b"# Commandstats\r\n", calls, b"\r\n"])
+}
+
+/// Returns the line about commands that were refused memory; nothing if there is none.
+fn refusal_line(refusals: u64) -> ArrayVec<u8, 64>
+    ensures { result.items ≡ refusal_line refusals }
+{
+    if refusals == 0 {
+        return ArrayVec::new();
+    }
+    line(b"errorstat_OOM:count=", refusals)
+}
+
+/// Returns the section about errors.
+fn error_stats(alloc: Global, info: &Info) -> Result<Vec<u8>, NoMemory>
+    ensures { IfOk result (λ text. text.items ≡ spec.error_stats info.now) }
+{
+    let refused = refusal_line(info.refusals);
+    joined(alloc, &[b"# Errorstats\r\n", refused.as_slice(), b"\r\n"])
+}
+
 /// Returns the section about the keys.
 fn keyspace(alloc: Global, info: &Info) -> Result<Vec<u8>, NoMemory>
     ensures { IfOk result (λ text. text.items ≡ spec.keyspace info.now) }
@@ -202,18 +230,55 @@ fn shown<'a>(name: &str, words: &[&[u8]], section: &'a [u8]) -> &'a [u8]
     if is_shown(name, words) { section } else { &[] }
 }
 
+/// Tests whether the word names the section of this name, which is none of the default ones, or all of them.
+fn names_more(name: &str, word: &[u8]) -> bool
+    ensures { result ≡ names_more name.now word.now }
+{
+    is(name, word) || is("all", word) || is("everything", word)
+}
+
+/// Tests whether one of the words names this section, which is none of the default ones.
+fn is_named_more(name: &str, words: &[&[u8]]) -> bool
+    ensures { result ≡ list_any (names_more name.now) (texts words.now) }
+{
+    for word in words {
+        if names_more(name, word) {
+            return true;
+        }
+    }
+    false
+}
+
+/// Returns the section of this name, which is none of the default ones, if it is asked for, or nothing.
+fn shown_more<'a>(name: &str, words: &[&[u8]], section: &'a [u8]) -> &'a [u8]
+    ensures { result.now ≡ shown_more name.now (texts words.now) section.now }
+{
+    if is_named_more(name, words) {
+        section
+    } else {
+        &[]
+    }
+}
+
 /// What `INFO` says of other servers.
 const REPLICATION: &[u8] = b"# Replication\r\nrole:master\r\nconnected_slaves:0\r\n\r\n";
 
-/// Returns the sections that the words ask for. `NoMemory` if memory for them was refused.
-pub fn info_text(alloc: Global, words: &[&[u8]], info: &Info) -> Result<Vec<u8>, NoMemory>
-    ensures { IfOk result (λ text. text.items ≡ info_text (texts words.now) info.now) }
+/// Returns the sections that the words ask for; `calls` has the lines of the commands that came. `NoMemory` if memory for them was refused.
+pub fn info_text(
+    alloc: Global,
+    words: &[&[u8]],
+    info: &Info,
+    calls: &[u8],
+) -> Result<Vec<u8>, NoMemory>
+    ensures { (all : List Calls) → calls.now ≡ flat_map calls_line all → IfOk result (λ text. text.items ≡ info_text (texts words.now) info.now all) }
 {
     let server = server(alloc, info)?;
     let clients = clients(alloc, info)?;
     let memory = memory(alloc, info)?;
     let persistence = persistence(alloc, info)?;
     let stats = stats(alloc, info)?;
+    let commands = command_stats(alloc, calls)?;
+    let errors = error_stats(alloc, info)?;
     let keyspace = keyspace(alloc, info)?;
     joined(
         alloc,
@@ -224,6 +289,8 @@ pub fn info_text(alloc: Global, words: &[&[u8]], info: &Info) -> Result<Vec<u8>,
             shown("persistence", words, &persistence),
             shown("stats", words, &stats),
             shown("replication", words, REPLICATION),
+            shown_more("commandstats", words, &commands),
+            shown("errorstats", words, &errors),
             shown("keyspace", words, &keyspace),
         ],
     )

@@ -11,6 +11,7 @@ mod calls;
 mod changes;
 mod clients;
 mod connection;
+mod counted;
 mod deadlines;
 mod desk;
 mod errors;
@@ -33,8 +34,10 @@ mod telling;
 mod texts;
 mod walks;
 
+pub use clients::{COMMAND_TEXT_BYTES, CommandText, command_text};
 pub use desk::{RedisDesk, TalkEnd};
 pub use lines::{NO_MEMORY_LINE, NO_ROOM_LINE};
 pub use moment::Moment;
+pub use redis_commands::COMMAND_KINDS;
 pub use sweeper::Sweeper;
 pub use talk::RedisTalk;

@@ -1,16 +1,18 @@
 //! Commands of the server.
-ghost use Rattle.std.specs.Prelude.{◌≡◌, ℕ, List, IsFalse};
+ghost use Rattle.std.specs.Prelude.{◌≡◌, ℕ, List, IfOk, IsFalse};
 ghost use Rattle.bin_stripes.specs.Passes.{PassState};
 ghost use Rattle.devices.specs.Devices.{CanWrite};
 ghost use Rattle.redis_commands.specs.Commands.{texts};
 ghost use Rattle.redis_commands.specs.declared.command.LastSave.TheVariants as last;
 ghost use Rattle.resp.specs.Replies.{value_bytes};
 ghost use Rattle.redis_service.specs.Connections.{SaysIfRoom};
+ghost use Rattle.redis_service.specs.Counted.{Calls};
 ghost use Rattle.redis_service.specs.Info as spec;
 ghost use Rattle.redis_service.specs.Replied.{replied_bytes};
 ghost use Rattle.redis_service.specs.Saving.{AnswersShutdown, later_line, save_line};
 ghost use Rattle.redis_service.specs.Sending.{Sends};
 
+use crate::counted::calls_lines;
 use crate::info::{Info, info_text};
 use crate::reply::Replied;
 use crate::talk::RedisTalk;
@@ -114,6 +116,7 @@ pub fn numbers(server: &ServerState, time: u64, keys: u64) -> Info
         clients_came: counts.clients_came,
         clients_refused: counts.clients_refused,
         commands: counts.commands,
+        refusals: counts.refusals,
         memory: resident_bytes().unwrap_or(0),
         expired: counts.expired,
         hits: counts.hits,
@@ -124,18 +127,32 @@ pub fn numbers(server: &ServerState, time: u64, keys: u64) -> Info
     }
 }
 
-/// Says the sections of `INFO` that the words ask for.
+/// Returns the sections of `INFO` that the words ask for, with what this server counted. `NoMemory` if memory for them was refused.
+fn counted_text(
+    alloc: Global,
+    words: &[&[u8]],
+    info: &Info,
+    server: &ServerState,
+) -> Result<Vec<u8>, NoMemory>
+    ensures { IfOk result (λ text. (calls : List Calls) × (text.items ≡ spec.info_text (texts words.now) info.now calls)) }
+{
+    let calls = calls_lines(alloc, server)?;
+    info_text(alloc, words, info, &calls)
+}
+
+/// Says the sections of `INFO` that the words ask for, with what this server counted.
 pub fn put_info<W: Sink>(
     alloc: Global,
     words: &[&[u8]],
     info: &Info,
+    server: &ServerState,
     sink: &mut W,
 ) -> Result<(), Failed>
     requires { CanWrite (W.state sink.old) }
-    ensures { (written : List ℕ) × Sends result (W.state sink.old) (W.state sink.new) written
-        × SaysIfRoom (value_bytes (spec.info_text (texts words.now) info.now)) written }
+    ensures { (calls : List Calls) × (written : List ℕ) × Sends result (W.state sink.old) (W.state sink.new) written
+        × SaysIfRoom (value_bytes (spec.info_text (texts words.now) info.now calls)) written }
 {
-    match info_text(alloc, words, info) {
+    match counted_text(alloc, words, info, server) {
         Ok(text) => put_value(sink, &text),
         Err(NoMemory) => Replied::NoMemory.send(&[], sink),
     }

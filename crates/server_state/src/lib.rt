@@ -7,18 +7,22 @@
 #![tactic(auto)]
 
 mod clients;
+mod clock;
 mod counts;
 mod password;
 mod resident;
 mod saves;
+mod slowlog;
 mod state;
 
 pub use clients::{
     CLIENT_TEXT_BYTES, ClientFact, ClientPulse, ClientText, ClientView, KillFilter, Killed,
     ServerClients, client_number, client_text,
 };
+pub use clock::ticks;
 pub use counts::{Counts, MOST_KINDS, WorkerCounts};
 pub use password::{PASSWORD_BYTES, Password};
 pub use resident::resident_bytes;
 pub use saves::SaveFate;
+pub use slowlog::{SLOW_ENTRIES, SLOW_WORD_BYTES, SLOW_WORDS, SlowEntry, SlowLog, SlowWord};
 pub use state::{ServerState, WorkerState};

@@ -6,6 +6,7 @@ use crate::clients::ServerClients;
 use crate::counts::{Counts, WorkerCounts, commands_of, refused_of, requests_of, sum};
 use crate::password::Password;
 use crate::saves::{SaveFate, Saves};
+use crate::slowlog::SlowLog;
 use bpf_model::NoMemory;
 use std::alloc::Global;
 use std::sync::Wait;
@@ -25,6 +26,7 @@ pub struct ServerState {
     others: WorkerCounts,
     password: Option<Password>,
     clients: ServerClients,
+    slow: SlowLog,
 }
 
 /// What one worker knows of its server, and where it counts.
@@ -64,6 +66,7 @@ impl ServerState {
             others: WorkerCounts::new(),
             password: None,
             clients: ServerClients::new(alloc, workers)?,
+            slow: SlowLog::off(alloc),
         })
     }
 
@@ -74,6 +77,20 @@ impl ServerState {
         ensures began { result.began ≡ self.began }
     {
         ServerState { password, ..self }
+    }
+
+    /// The same server, which keeps commands that take long in this log.
+    pub fn with_slow_log(self, slow: SlowLog) -> ServerState
+        ensures password { result.password ≡ self.password }
+        ensures keeps { result.keeps ≡ self.keeps }
+        ensures began { result.began ≡ self.began }
+    {
+        ServerState { slow, ..self }
+    }
+
+    /// Returns the commands that took long.
+    pub fn slow(&self) -> &SlowLog {
+        &self.slow
     }
 
     /// Returns the password that clients of commands have to show first; none if they needn't.

@@ -18,4 +18,5 @@ returns c = record {
   keep_seconds = c.from-5.ensures ∙ c.given_size-5.ensures;
   password_file = c.in_ok-given_text-4.ensures;
   metrics = c.in_ok-given_text-5.ensures;
+  slowlog_microseconds = c.widened-5.ensures ∙ c.given_number-5.ensures;
 }

@@ -6,4 +6,5 @@ returns-clause-numbers g c = count_keeps _ _ _ c.count_all-keys.ensures.counts
 
 pub returns-clause-answers : goal.returns-clause-answers
 returns-clause-answers g c =
-    let (w, sends, says) = c.put_info.ensures in (w, sends, (c.numbers-info.result, rw c.numbers-info.ensures c.count_all-keys.ensures.counts, says))
+    let (calls, w, sends, says) = c.put_info.ensures in
+    (w, sends, (c.numbers-info.result, calls, rw c.numbers-info.ensures c.count_all-keys.ensures.counts, says))

@@ -38,8 +38,5 @@ returns-in-Clients-clause-answers g c =
     let (w, sends, answers) = c.answer_clients.ensures.answers in (w, sends, rw c.in-Clients.is (answers, refl))
 
 pub returns-in-Slowlog-clause-answers : goal.returns-in-Slowlog-clause-answers
-returns-in-Slowlog-clause-answers g c = (
-  replied_bytes c.slowlog_line.result [],
-  sends_of c.send-in-Slowlog.result (g.W.Sink.state c.args.sink.now) (g.W.Sink.state c.send-in-Slowlog.new.sink) _ c.send-in-Slowlog.ensures.ok c.send-in-Slowlog.ensures.err,
-  rw c.in-Slowlog.is (c.slowlog_line.ensures [], refl, refl),
-)
+returns-in-Slowlog-clause-answers g c =
+    let (w, sends, answers) = c.answer_slowlog.ensures in (w, sends, rw c.in-Slowlog.is (answers, refl, refl))
