@@ -244,14 +244,14 @@ QUICK = [
 
 
 def quick_ones(client: Client) -> list[tuple[int, list[bytes], bytes, bool, bool, bool]]:
-    """Makes these commands, and gives what is shown of them, but for what differs from run to run; the last ones first."""
+    """Makes these commands, and gives what is shown of them, but for what differs from run to run; the last ones first. They are numbered from 0 on."""
     client.ask("SLOWLOG", "RESET")
     for words in QUICK:
         client.ask(*words)
     now = time.time()
     shown = slow_of(client, -1)
     own = own_address(client).encode()
-    return [(slow.number, slow.words, slow.name, slow.address == own, abs(slow.time - now) < 10, slow.microseconds < 1_000_000) for slow in shown]
+    return [(slow.number - shown[-1].number, slow.words, slow.name, slow.address == own, abs(slow.time - now) < 10, slow.microseconds < 1_000_000) for slow in shown]
 
 
 def slow_commands_are_shown(program: Path) -> None:

@@ -3,6 +3,7 @@ pub mod ClientLemmas
 pub mod ChangeLemmas
 pub mod TextLemmas
 pub mod SendLemmas
+pub mod SlowLemmas
 pub mod EachLemmas
 pub mod SetLemmas
 pub mod ReadLemmas
