@@ -5,9 +5,9 @@ use Rattle.redis_service.proofs.desk.RedisDesk.answer_command.Goals as goal
 
 pub returns-in-SetEach-clause-answers : goal.returns-in-SetEach-clause-answers
 returns-in-SetEach-clause-answers g c = (
-  replied_bytes c.put_each.result [],
+  replied_bytes c.put_each-replied.result [],
   sends_of c.send.result (g.W.Sink.state c.args.sink.now) (g.W.Sink.state c.send.new.sink) _ c.send.ensures.ok c.send.ensures.err,
-  rw c.in-SetEach.is (rw c.at-at.ensures.time at (c.put_each.ensures.answers []), refl),
+  rw c.in-SetEach.is (rw c.at-at.ensures.time at (c.put_each-replied.ensures.answers []), refl),
 )
 
 pub returns-in-Connection-clause-answers : goal.returns-in-Connection-clause-answers
