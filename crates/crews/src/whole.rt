@@ -3,6 +3,7 @@ ghost use Rattle.std.specs.Prelude.{◌≡◌, ◌<◌, ◌++◌, ℕ, All, flat
 ghost use Rattle.stripe_rule.specs.Gains.{mine_of};
 ghost use Rattle.bin_stripes.specs.Passes.{stripes_of};
 ghost use Rattle.crews.specs.Crews.{IsCrewOf};
+ghost use Rattle.crews.specs.Deeds.{SeesLives};
 ghost use Rattle.crews.specs.Lives.{known_of};
 ghost use Rattle.crews.specs.Whole.{SeesSessions, Joins, crew_numbers, all_mine};
 
@@ -63,6 +64,7 @@ pub fn join_crews(map: &StripedMap, one: Crew, other: Crew) -> Pass
     ensures map { result.map ≡ map.now }
     ensures numbers { result.view.numbers ≡ crew_numbers (known_of one) ++ crew_numbers (known_of other) }
     ensures served { SeesSessions one other result }
+    ensures lived { SeesLives one other result }
 {
     let one = join_crew(map, one);
     let other = join_crew(map, other);
