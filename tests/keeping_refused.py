@@ -36,10 +36,11 @@ class Asked:
         with contextlib.suppress(OSError, wire.Ended), resp.Client(server.redis) as client:
             self.set = client.ask("SET", "new", NEW[b"new"].value)
             self.saved = client.ask("SAVE")
-        # a connection may have ended for want of memory; one request alone is refused, so the next one ends the server
-        with contextlib.suppress(OSError, wire.Ended), resp.Client(server.redis) as client:
-            client.send("SHUTDOWN")
-            client.rest()
+        # a connection may end for want of memory, also the one that asks for the end; one request alone is refused, so the next one is kept
+        for _ in range(2):
+            with contextlib.suppress(OSError, wire.Ended), resp.Client(server.redis) as client:
+                client.send("SHUTDOWN")
+                client.rest()
         self.status = server.finish()
         if self.status == 1:
             # it was ready, but had no memory for its worker

@@ -4,6 +4,8 @@ pub mod NumberLemmas
 pub mod StepLemmas
 pub mod SharedLemmas
 pub mod WholeLemmas
+pub mod DeedLemmas
+pub mod JointLemmas
 pub mod ThreadLemmas
 pub mod ServeLemmas
 pub mod TokenLemmas

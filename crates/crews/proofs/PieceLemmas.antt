@@ -259,7 +259,7 @@ commands_say (Ok u) tokens team old new time talk next piece leaving a b c some 
     only_answered s0 s1 (Commands next) piece written leaving a.rest c.rest exchanges read said (record { map_is = same.map; pass = numbers; team = refl }) refl
     (ap (λ (o : OwedState). o.rest) still ∙ takes.0)
     (subst (λ (l : Option Parting). SaysSo l (Commands next) xs (read ++ piece) (said ++ written)) (sym is)
-    (goes_on, said_more (Commands talk) (Commands next) (exchange s0 piece written s1) exchanges read said (commands_more (exchange s0 piece written s1) talk next exchanges (record { goes_on = begins; team = refl; tokens = refl; time = time; answers = answers })) all))
+    (goes_on, said_more (Commands talk) (Commands next) (exchange s0 piece written s1) exchanges read said (commands_more (exchange s0 piece written s1) talk next exchanges (record { goes_on = begins; map = same.map; team = refl; tokens = refl; time = time; answers = answers })) all))
 commands_say (Err talk_end.Over) tokens team old new time talk next piece leaving a b c some begins same numbers ok over lacks breaks (is, still) exchanges read said (opened, all) =
     let (ended, (written, takes, answers)) = over refl in
     let s0 : Station = record { pass = old; team = team; tokens = tokens } in
@@ -268,7 +268,7 @@ commands_say (Err talk_end.Over) tokens team old new time talk next piece leavin
     only_answered s0 s1 (Commands next) piece written leaving a.rest c.rest exchanges read said (record { map_is = same.map; pass = numbers; team = refl }) refl
     (still ∙ takes.0)
     (subst (λ (l : Option Parting). SaysSo l (Commands next) xs (read ++ piece) (said ++ written)) (sym is)
-    (Commands next, refl, ended, said_more (Commands talk) (Commands next) (exchange s0 piece written s1) exchanges read said (commands_more (exchange s0 piece written s1) talk next exchanges (record { goes_on = begins; team = refl; tokens = refl; time = time; answers = answers })) all))
+    (Commands next, refl, ended, said_more (Commands talk) (Commands next) (exchange s0 piece written s1) exchanges read said (commands_more (exchange s0 piece written s1) talk next exchanges (record { goes_on = begins; map = same.map; team = refl; tokens = refl; time = time; answers = answers })) all))
 commands_say (Err talk_end.NoMemory) tokens team old new time talk next piece leaving a b c some begins same numbers ok over lacks breaks tells exchanges read said (opened, all) =
     let (unchanged, still, kept) = lacks refl in
     let unwritten : b.rest ≡ a.rest = some_same b.rest a.rest (ap (λ (s : SinkState). s.held) kept) in
@@ -279,4 +279,4 @@ commands_say (Err talk_end.NoMemory) tokens team old new time talk next piece le
 commands_say (Err talk_end.WriteFailed) tokens team old new time talk next piece leaving a b c some begins same numbers ok over lacks breaks (is, still) exchanges read said (opened, all) =
     let (written, takes, broke) = breaks refl in
     broken (record { pass = old; team = team; tokens = tokens }) (record { pass = new; team = team; tokens = tokens }) (Commands talk) (Commands next) piece written leaving a.rest c.rest exchanges read said
-    (record { map_is = same.map; pass = numbers; team = refl }) refl (record { goes_on = begins; team = refl; tokens = refl; time = time; breaks = broke }) refl is (still ∙ takes.0) all
+    (record { map_is = same.map; pass = numbers; team = refl }) refl (record { goes_on = begins; map = same.map; team = refl; tokens = refl; time = time; breaks = broke }) refl is (still ∙ takes.0) all

@@ -13,3 +13,4 @@ pub mod Posts
 pub mod Shared
 pub mod Together
 pub mod Whole
+pub mod Deeds

@@ -50,10 +50,11 @@ abbrev pub IsOver : Talk → Type 0
 IsOver (Frames held) = ⊥
 IsOver (Commands talk) = talk.is_over ≡ true
 
--- the commands of the exchange's piece are answered at some time, on what the crew's pass knows; its team and the client's tokens stay
--- as they were
+-- the commands of the exchange's piece are answered at some time, on what the crew's pass knows, which stays one of its map; its team and
+-- the client's tokens stay as they were
 pub record AnswersCommands (talk : TalkState) (exchange : Exchange Station) (next : TalkState) : Type 0 where
   pub goes_on : talk.is_over ≡ false
+  pub map : exchange.new.pass.map ≡ exchange.old.pass.map
   pub team : exchange.new.team ≡ exchange.old.team
   pub tokens : exchange.new.tokens ≡ exchange.old.tokens
   pub time : ℕ
@@ -62,6 +63,7 @@ pub record AnswersCommands (talk : TalkState) (exchange : Exchange Station) (nex
 -- so are some, and the answer to one breaks off
 pub record BreaksCommands (talk : TalkState) (exchange : Exchange Station) (next : TalkState) : Type 0 where
   pub goes_on : talk.is_over ≡ false
+  pub map : exchange.new.pass.map ≡ exchange.old.pass.map
   pub team : exchange.new.team ≡ exchange.old.team
   pub tokens : exchange.new.tokens ≡ exchange.old.tokens
   pub time : ℕ

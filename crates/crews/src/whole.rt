@@ -3,6 +3,7 @@ ghost use Rattle.std.specs.Prelude.{◌≡◌, ◌<◌, ◌++◌, ℕ, All, flat
 ghost use Rattle.stripe_rule.specs.Gains.{mine_of};
 ghost use Rattle.bin_stripes.specs.Passes.{stripes_of};
 ghost use Rattle.crews.specs.Crews.{IsCrewOf};
+ghost use Rattle.crews.specs.Deeds.{SeesLives};
 ghost use Rattle.crews.specs.Lives.{known_of};
 ghost use Rattle.crews.specs.Whole.{SeesSessions, Joins, crew_numbers, all_mine};
 
@@ -56,13 +57,15 @@ fn join_crew(map: &StripedMap, crew: Crew) -> Pass
 /// Joins all passes of two crews, those of their teams too. The joined pass carries all their numbers. However many sessions each crew
 /// served, of each stripe the joined pass has seen, under each of these numbers, just what the passes had made before, and what they
 /// made since: each call that a session answered, and each event of each walk, once (`served`). What a crew made stands there in the
-/// order of its answers, after all that its pass had seen before. Takes no memory. Never waits.
+/// order of its answers, after all that its pass had seen before. The same holds of what the crews made in the turns of their lives, as
+/// `attend` tells them: for requests, for commands, and in sweeps (`lived`). Takes no memory. Never waits.
 pub fn join_crews(map: &StripedMap, one: Crew, other: Crew) -> Pass
     requires one { IsCrewOf map.now one }
     requires other { IsCrewOf map.now other }
     ensures map { result.map ≡ map.now }
     ensures numbers { result.view.numbers ≡ crew_numbers (known_of one) ++ crew_numbers (known_of other) }
     ensures served { SeesSessions one other result }
+    ensures lived { SeesLives one other result }
 {
     let one = join_crew(map, one);
     let other = join_crew(map, other);

@@ -10,9 +10,9 @@ mod sweeping;
 use crate::bpfmap::memory::{Pieces, ROOM, Room};
 use bin_stripes::{OpenGate, Pass, StripedMap};
 use bulk_walks::Team;
-use crews::{Crew, session};
+use crews::{Crew, Tokens, Worker, session, session_with_tokens};
 use map_server::{SessionEnd, StreamSink, StreamSource};
-use program_registry::Registry;
+use program_registry::{ProgramToken, Registry};
 use std::alloc::Global;
 use std::sync::Wait;
 use std::test::Fail;
@@ -182,5 +182,51 @@ fn a_program_of_an_earlier_session_is_found(rt: HostRuntime) -> Result<(), Fail>
     assert!(&rt; is_answered(&rt, &map, &registry, one, REGISTER_AT_ONCE, REGISTERED));
     // The walk of the same session sees the call; its team has two other passes.
     assert!(&rt; is_answered(&rt, &map, &registry, other, COMPUTE_AT_ONCE, COMPUTED));
+    Ok(())
+}
+
+/// Runs a session of the crew over these bytes. Returns the tokens of its client.
+fn tokens_after<'a, H: AllocGlobal + Threads + Wait + Sync>(
+    worker: &Worker<'a, H, OpenGate>,
+    crew: Crew,
+    sent: &'static [u8],
+) -> Tokens<'a>
+    requires { IsCrewOf worker.now.map.now crew }
+    ensures { result.registry ≡ worker.now.registry.now }
+{
+    let mut reader = StreamSource::new(Pieces {
+        rest: sent,
+        size: 1 << 14,
+        fails: false,
+    });
+    let mut writer = StreamSink::new(Room::new(worker.alloc, ROOM));
+    let (_, _, tokens) = session_with_tokens(worker, &mut reader, &mut writer, crew);
+    tokens
+}
+
+/// Tests whether both have one token, of one number.
+fn have_one_number(tokens: &[ProgramToken], others: &[ProgramToken]) -> bool {
+    match (tokens, others) {
+        ([token], [other]) => token.number() == other.number(),
+        _ => false,
+    }
+}
+
+#[test]
+fn tokens_of_two_clients_mean_the_same(rt: HostRuntime) -> Result<(), Fail> {
+    let (map, one, other) = two_crews(rt.alloc()).ok_or("no map")?;
+    let registry = Registry::new(rt.alloc())?;
+    let worker = Worker {
+        rt: &rt,
+        alloc: rt.alloc(),
+        gate: &OpenGate,
+        map: &map,
+        registry: &registry,
+    };
+    let registered = tokens_after(&worker, one, REGISTER);
+    let named = tokens_after(&worker, other, COMPUTE);
+    registered.mean_the_same(&named);
+    let (registered, named) = (registered.into_vec(), named.into_vec());
+    assert!(&rt; have_one_number(registered.as_slice(), named.as_slice()));
     Ok(())
 }
