@@ -17,5 +17,5 @@ chained r old new said a b sends = subst (λ (t : List ℕ). Sends r old new t) 
 pub parts_of : (entry : SlowEntry) (words : List SlowWord) (address name : List ℕ) → words ≡ entry.words.items → address ≡ entry.address.items
     → name ≡ entry.name.items
     → (array_head 6 ++ count_line entry.number ++ count_line entry.time ++ count_line entry.microseconds ++ words_bytes words ++ value_bytes address
-      ++ value_bytes name) ≡ entry_bytes entry
+    ++ value_bytes name) ≡ entry_bytes entry
 parts_of entry words address name p q r = cc

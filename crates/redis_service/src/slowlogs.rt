@@ -99,7 +99,38 @@ fn cut_words(words: &[&[u8]]) -> ArrayVec<SlowWord, SLOW_WORDS> {
     all
 }
 
-/// Keeps the command that began so, of these words, if it took long.
+impl Timer {
+    /// Keeps the command of these words, if it took long. Not inlined, so that a command which isn't timed clears no room for an entry.
+    #[inline(never)]
+    fn end<H: Wait>(
+        self,
+        moment: &Moment<'_, H>,
+        server: &ServerState,
+        talk: &RedisTalk<'_>,
+        words: &[&[u8]],
+    ) {
+        let took = ticks().saturating_sub(self.begun);
+        if took < self.least {
+            return;
+        }
+        let view = match server.clients().find(moment.rt, talk.number()) {
+            Some(view) => view,
+            None => ClientView::stranger(talk.number()),
+        };
+        let entry = SlowEntry {
+            number: 0,
+            time: moment.time / 1000,
+            microseconds: took,
+            words: cut_words(words),
+            address: view.address,
+            name: client_text(talk.name()),
+        };
+        server.slow().add(moment.rt, entry);
+    }
+}
+
+/// A command of these words ends, which began so.
+#[inline(always)]
 pub fn end<H: Wait>(
     timer: Option<Timer>,
     moment: &Moment<'_, H>,
@@ -107,26 +138,9 @@ pub fn end<H: Wait>(
     talk: &RedisTalk<'_>,
     words: &[&[u8]],
 ) {
-    let Some(timer) = timer else {
-        return;
-    };
-    let took = ticks().saturating_sub(timer.begun);
-    if took < timer.least {
-        return;
+    if let Some(timer) = timer {
+        timer.end(moment, server, talk, words);
     }
-    let view = match server.clients().find(moment.rt, talk.number()) {
-        Some(view) => view,
-        None => ClientView::stranger(talk.number()),
-    };
-    let entry = SlowEntry {
-        number: 0,
-        time: moment.time / 1000,
-        microseconds: took,
-        words: cut_words(words),
-        address: view.address,
-        name: client_text(talk.name()),
-    };
-    server.slow().add(moment.rt, entry);
 }
 
 /// Says the words of a command, if no write failed before.
