@@ -22,7 +22,7 @@ use crate::lines::NO_MEMORY_LINE;
 use crate::moment::Moment;
 use crate::programs::{Programs, answer_program};
 use crate::reader::Reader;
-use crate::reply::Replied;
+use crate::reply::{Replied, count_refused};
 use crate::room::Room;
 use crate::saving::{later_line, numbers, put_info, save, save_later, save_line, shut_down};
 use crate::several::{count_each, count_of, get_each, put_each, remove_each};
@@ -39,7 +39,7 @@ use redis_commands::{
 };
 use redis_scripts::Scripts;
 use resp::{Next, NextFault, put_error};
-use server_state::{WorkerCounts, WorkerState};
+use server_state::WorkerState;
 use std::alloc::Global;
 use std::marker::Model;
 use std::mem;
@@ -164,13 +164,6 @@ fn read<'w>(
     } else {
         *noted = noted_kind(name_of(words), words);
         command_before_auth(words)
-    }
-}
-
-/// Counts the reply, if it says that memory was refused.
-fn count_refused(counts: &WorkerCounts, replied: Replied) {
-    if matches!(replied, Replied::NoMemory) {
-        counts.count_refusal();
     }
 }
 

@@ -21,7 +21,7 @@ ghost use Rattle.redis_service.specs.Sending.{Sends};
 use crate::calls::{MapAt, Outcome, make};
 use crate::errors::{NO_ARGUMENT, NOT_A_NUMBER, TOO_LONG};
 use crate::locks::act_on_lock;
-use crate::reply::Replied;
+use crate::reply::{Replied, count_refused};
 use crate::room::Room;
 use crate::telling::one_if;
 use crate::texts::set_both;
@@ -413,6 +413,7 @@ pub fn answer_program<H: Wait, W: Sink>(
         } => {
             room.key.set_from(key);
             let replied = call_digest(rt, programs, pass, room, digest, arguments);
+            count_refused(programs.at.counts, replied);
             replied.send(room.found.as_slice(), sink)
         }
         ProgramCommand::Eval {
@@ -422,7 +423,10 @@ pub fn answer_program<H: Wait, W: Sink>(
         } => {
             room.key.set_from(key);
             match call_text(rt, programs, pass, room, text, arguments) {
-                Ok(replied) => replied.send(room.found.as_slice(), sink),
+                Ok(replied) => {
+                    count_refused(programs.at.counts, replied);
+                    replied.send(room.found.as_slice(), sink)
+                }
                 Err(fault) => put_error(sink, fault.message().as_slice()),
             }
         }

@@ -10,6 +10,7 @@ use arrayvec::ArrayVec;
 use devices::{Failed, Sink, write_all};
 use itoa::Buffer;
 use resp::{put_array, put_error, put_integer, put_nothing, put_simple, put_value};
+use server_state::WorkerCounts;
 
 /// Returns the line of a number.
 fn count_line(number: u64) -> ArrayVec<u8, 64>
@@ -81,5 +82,12 @@ impl Replied {
     {
         sent?;
         self.send(found, sink)
+    }
+}
+
+/// Counts the reply, if it says that memory was refused.
+pub fn count_refused(counts: &WorkerCounts, replied: Replied) {
+    if matches!(replied, Replied::NoMemory) {
+        counts.count_refusal();
     }
 }
