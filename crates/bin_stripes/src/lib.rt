@@ -56,3 +56,4 @@ pub use map::StripedMap;
 pub use open::MAX_PASSES;
 pub use pass::Pass;
 pub use saving::TakeHow;
+pub use turns::Waits;

@@ -18,7 +18,7 @@ use crate::pass::Pass;
 use crate::rule::{Shape, Striping};
 use crate::seats::{try_call, try_replace, try_scan};
 use crate::steps::take_stripe;
-use crate::turns::Turns;
+use crate::turns::{Turns, Waits};
 use atomic_methods::{Call, HashedCall, Reply, ReplyKind};
 use atomic_table::Table;
 use bins::{Counts, EntryList, HashedBins};
@@ -77,6 +77,12 @@ impl StripedMap {
         ensures range { result < stripes_of self.now }
     {
         atomic_methods::stripe_of(key, self.stripes())
+    }
+
+    /// Returns how often threads have waited for a stripe since the map was opened, and the longest wait. Both count only waits that
+    /// are over, of all passes and calls. Takes no memory. Never waits.
+    pub fn waits(&self) -> Waits {
+        self.turns.waits()
     }
 
     /// The stripe of the call's key.

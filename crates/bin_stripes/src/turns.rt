@@ -17,10 +17,31 @@ const NAPS: [u64; 4] = [50, 100, 200, 400];
 /// A map has at most this many stripes.
 const STRIPES: usize = MAX_STRIPES as usize;
 
-/// How many starve at each stripe of a map.
+/// What a yield counts in microseconds, if nobody looks at a clock.
+const YIELD_MICROS: u64 = 1;
+
+/// How long threads have waited for a map's stripes. No clock is read: a nap counts as the time asked for, and a yield as a
+/// microsecond. Both mostly take longer, so this is a lower bound, but for naps that the system ends early.
+#[derive(Clone, Copy, Debug, PartialEq, Eq)]
+pub struct Waits {
+    /// How often a thread found a stripe held, or found others that had waited for long, and took it only after that.
+    pub times: u64,
+    /// The longest that one of them waited, in microseconds.
+    pub longest_micros: u64,
+}
+
+/// The waits of a map that are over.
+#[derive(Drop)]
+struct Waited {
+    times: AtomicU64,
+    longest_micros: AtomicU64,
+}
+
+/// How many starve at each stripe of a map, and how long its threads have waited.
 #[derive(Drop)]
 pub(crate) struct Turns {
     starving: [AtomicU64; STRIPES],
+    waited: Waited,
 }
 
 impl Turns {
@@ -28,6 +49,18 @@ impl Turns {
     pub(crate) fn new() -> Turns {
         Turns {
             starving: array::from_fn(|_| AtomicU64::new(0)),
+            waited: Waited {
+                times: AtomicU64::new(0),
+                longest_micros: AtomicU64::new(0),
+            },
+        }
+    }
+
+    /// Returns how long threads have waited. The two numbers are read one after the other.
+    pub(crate) fn waits(&self) -> Waits {
+        Waits {
+            times: self.waited.times.load(Ordering::Relaxed),
+            longest_micros: self.waited.longest_micros.load(Ordering::Relaxed),
         }
     }
 
@@ -42,17 +75,22 @@ impl Turns {
     pub(crate) fn come(&self, stripe: usize) -> Waiter<'_> {
         Waiter {
             starving: &self.starving[stripe % STRIPES],
+            waited: &self.waited,
             rests: 0,
+            micros: 0,
             starves: false,
         }
     }
 }
 
-/// A thread that wants a stripe: how often it has rested since it came, and whether it has waited for so long that others let it go first.
+/// A thread that wants a stripe: how often it has rested since it came, how many microseconds that counts, and whether it has waited
+/// for so long that others let it go first.
 #[derive(Drop)]
 pub(crate) struct Waiter<'a> {
     starving: &'a AtomicU64,
+    waited: &'a Waited,
     rests: u32,
+    micros: u64,
     starves: bool,
 }
 
@@ -69,6 +107,10 @@ impl Waiter<'_> {
         if self.starves {
             self.starving.fetch_sub(1, Ordering::Relaxed);
         }
+        self.waited.times.fetch_add(1, Ordering::Relaxed);
+        self.waited
+            .longest_micros
+            .fetch_max(self.micros, Ordering::Relaxed);
     }
 
     /// Rests before it tries again.
@@ -77,6 +119,7 @@ impl Waiter<'_> {
         let rests = self.rests;
         self.rests = rests.saturating_add(1);
         if rests < YIELDS {
+            self.micros = self.micros.saturating_add(YIELD_MICROS);
             return thread::yield_now();
         }
         match NAPS.get((rests - YIELDS) as usize) {
@@ -95,7 +138,8 @@ impl Waiter<'_> {
     }
 
     /// Sleeps for this many microseconds.
-    fn nap<R: Wait>(&self, rt: &R, micros: u64) {
+    fn nap<R: Wait>(&mut self, rt: &R, micros: u64) {
+        self.micros = self.micros.saturating_add(micros);
         let seen = self.starving.load(Ordering::Relaxed) % (1 << 32);
         let time = Duration::from_micros(micros);
         self.starving.park_timeout(rt, seen as u32, time);
