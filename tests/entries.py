@@ -26,7 +26,7 @@ import wire  # noqa: E402
 
 BPFMAP = Path(__file__).resolve().parent.parent / "crates/bpfmap/out/bpfmap"
 # The bytes of a key and of a value, how many entries there are before as many more come, and the most bytes that one may take.
-SHAPES = [(8, 8, 200_000, 95), (16, 24, 150_000, 130), (16, 100, 100_000, 215), (32, 200, 60_000, 350), (48, 500, 30_000, 730),
+SHAPES = [(8, 8, 200_000, 80), (16, 24, 150_000, 112), (16, 100, 100_000, 200), (32, 200, 60_000, 330), (48, 500, 30_000, 730),
           (64, 1024, 20_000, 1_300)]
 # At least this many entries of 8 and 8 bytes fit in a GiB of address space, and of this many some are refused.
 ROOMY, CROWDED, GIBIBYTE_KIB = 600_000, 1_400_000, 1 << 20

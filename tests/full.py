@@ -1,5 +1,5 @@
 #!/usr/bin/env python3
-"""Puts a million keys into a session of the built bpfmap that may take 200,000 KiB of memory, or with --server of the built mapd. Some
+"""Puts a million keys into a session of the built bpfmap that may take 280,000 KiB of memory, or with --server of the built mapd. Some
 are refused with 9; the session goes on, and Get then gives each value whose Put was answered, and no other.
 
 By hand, after `rt run` in crates/bpfmap or crates/mapd: python3 tests/full.py [--server] [KEYS [KIB]]."""
@@ -33,7 +33,7 @@ def refusals(values: list[bytes], answers: list[bytes]) -> int:
 def main() -> None:
     words = argparse.ArgumentParser()
     words.add_argument("keys", nargs="?", type=int, default=1_000_000)
-    words.add_argument("kib", nargs="?", type=int, default=200_000)
+    words.add_argument("kib", nargs="?", type=int, default=280_000)
     words.add_argument("--server", action="store_true")
     words.add_argument("--program")
     asked = words.parse_args()

@@ -26,11 +26,12 @@ import redis_wire  # noqa: E402
 import wire  # noqa: E402
 from wire import Wrong, same  # noqa: E402
 
-GAUGES = {"mapd_entries", "mapd_resident_bytes", "mapd_uptime_seconds", "mapd_clients", "mapd_last_save_seconds", "mapd_save_failing"}
+GAUGES = {"mapd_entries", "mapd_resident_bytes", "mapd_uptime_seconds", "mapd_clients", "mapd_last_save_seconds", "mapd_save_failing",
+          "mapd_longest_wait_microseconds"}
 COUNTERS = {f"mapd_{name}_total" for name in
-            ("clients_came", "clients_refused", "commands", "requests", "walks", "refusals", "expired", "hits", "misses")}
+            ("clients_came", "clients_refused", "commands", "requests", "walks", "refusals", "expired", "hits", "misses", "stripe_waits")}
 # What changes by itself.
-PASSING = {"mapd_resident_bytes", "mapd_uptime_seconds"}
+PASSING = {"mapd_resident_bytes", "mapd_uptime_seconds", "mapd_stripe_waits_total", "mapd_longest_wait_microseconds"}
 # Those that come in several lines, each with a label of this key.
 LABELS = {"mapd_commands_total": "command", "mapd_requests_total": "request", "mapd_refusals_total": "number"}
 TYPE = "text/plain; version=0.0.4; charset=utf-8"
@@ -350,6 +351,26 @@ def numbers_of_saves_and_memory(program: Path) -> None:
             same("entries", more.get("mapd_entries"), None)
 
 
+def waits_are_counted(program: Path) -> None:
+    """If clients of several workers run long programs on one key, some of their calls wait, and the numbers tell so."""
+    sizes, least = (64, 1024, 8, 8), 100
+    begin, divide = bytes.fromhex("b705000001000000"), bytes.fromhex("3705000003000000")
+    long = begin + divide * 4000 + bytes.fromhex("7a04000001000000 b700000008000000 9500000000000000")
+    with started(program, "--workers", "4") as ports, contextlib.ExitStack() as stack:
+        same("waits at first", told(ports.metrics)["mapd_stripe_waits_total"] < least, True)
+        clients = [stack.enter_context(wire.opened(ports.frames, 2)) for _ in range(8)]
+        number = int.from_bytes(clients[0].ask(wire.register(sizes, long))[1:], "big")
+        until = time.monotonic() + wire.PATIENCE
+        while (found := told(ports.metrics))["mapd_stripe_waits_total"] < least and time.monotonic() < until:
+            for client in clients:
+                client.send(*[wire.compute(b"key", number, None)] * 64)
+            for client in clients:
+                for _ in range(64):
+                    client.answer()
+        same("waits of calls", found["mapd_stripe_waits_total"] >= least, True)
+        same("the longest wait", 0 < found["mapd_longest_wait_microseconds"] < 10_000_000, True)
+
+
 def the_server_goes_on(program: Path) -> None:
     """Random bytes and many readers at once; and a server ends in time while a reader hangs."""
     chance = random.Random(7)
@@ -391,8 +412,8 @@ def prometheus_reads_it(program: Path) -> None:
         same("what promtool says", (run.returncode, run.stderr), (0, ""))
 
 
-PARTS = [pages_and_heads, pieces_and_ends, readers_that_hang, numbers_after_calls, kinds_of_requests, kinds_of_commands, numbers_of_saves_and_memory,
-         the_server_goes_on, ports_and_passes, prometheus_reads_it]
+PARTS = [pages_and_heads, pieces_and_ends, readers_that_hang, numbers_after_calls, kinds_of_requests, kinds_of_commands,
+         numbers_of_saves_and_memory, waits_are_counted, the_server_goes_on, ports_and_passes, prometheus_reads_it]
 
 
 if __name__ == "__main__":

@@ -245,7 +245,7 @@ def memory_runs_out(program: Path) -> None:
     """Puts new keys until memory is refused: each reply says whether its key is there, and then keys that are removed make room again."""
     if "MAPD_IS_CHECKED" in os.environ:
         return
-    server = Front(program, ["--workers", "2"], kib=150_000)
+    server = Front(program, ["--workers", "2"], kib=230_000)
     try:
         with Client(server.address) as client:
             replies = [client.ask("SET", f"key {number}", b"v" * 1024) for number in range(100_000)]

@@ -173,8 +173,8 @@ kib=65536
 judge "what is limited or wanting" python3 tests/server_limits.py --program "$program"
 judge "changed bytes" python3 tests/mutated.py --server --program "$program" --kib "$kib" 10
 if [ -z "${MAPD_IS_CHECKED:-}" ]; then
-    # a stripe asks for memory by segments: 16 of them have 80 MB of an address space before any is full
-    limits="ulimit -v 150000" serve "no memory" memory --workers 3
+    # a stripe asks for memory by segments: 16 of them have 160 MB of an address space before any is full
+    limits="ulimit -v 230000" serve "no memory" memory --workers 3
     judge "a million keys" python3 tests/full.py --server --program "$program"
     judge "each request for memory refused in turn" python3 tests/server_refused.py --program "$program"
 fi

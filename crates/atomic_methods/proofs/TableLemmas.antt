@@ -6,7 +6,9 @@ use Rattle.std.specs.FinMap as map
 use Rattle.std.specs.FinMap.{same_map, get-insert, get-remove, get_tied}
 use Rattle.bins.specs.Table.{Table, by_bytes}
 use Rattle.bins.proofs.MapEdits.{total, antisymmetric, remove_absent}
-use Rattle.atomic_methods.specs.Methods.{with_value}
+use Rattle.atomic_methods.specs.declared.reply.Reply.TheVariants.{Value}
+use Rattle.atomic_methods.specs.Invocations.{Invocation, get, on_key}
+use Rattle.atomic_methods.specs.Methods.{with_value, Answers}
 
 twice : {A : Type 0} (b : Bool) (x y z : A) → cond b x (cond b y z) ≡ cond b x z
 twice true x y z = refl
@@ -45,3 +47,9 @@ insert-same table key value found = same_map total antisymmetric _ _ (λ q. get-
 pub keeps : (table : Table) (key : List ℕ) (value : Option (List ℕ)) → map.get table key ≡ value → table ≡ with_value table key value
 keeps table key (Some value) is = sym (insert-same table key value is)
 keeps table key None is = sym (remove_absent table key is)
+
+-- a read of a present key replies its value, and the table stays
+pub value_read : (table : Table) (invocation : Invocation) (key old : List ℕ) → on_key key get ≡ invocation → Some old ≡ map.get table invocation.key → Answers table invocation table (Value (Some old))
+value_read table invocation key old asked found =
+    let reads : invocation.method ≡ get = rw (← asked) refl in
+    (Some old, (rw (reads, ← found) (refl, refl), keeps table invocation.key (Some old) (sym found)))

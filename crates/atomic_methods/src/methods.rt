@@ -48,6 +48,10 @@ pub fn apply_into<B: Bins>(
     let Some(old) = bins.find(call.key()) else {
         return apply_to_absent(bins, call, workspace, bytes);
     };
+    if let Call::Get { .. } = call.call() {
+        bytes.set_from(old);
+        return Ok(ReplyKind::Some);
+    }
     match plan_of(call.call(), Some(old)) {
         Plan::Apply(change, told) => {
             bytes.set_from(old);

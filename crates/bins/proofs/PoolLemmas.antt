@@ -26,7 +26,7 @@ unfolding total
 total_less zero f g less = omega arith
 total_less (suc n) f g less = let rest = total_less n f g less in let here = less n in omega (arith, rest, here)
 
-pub total_scaled : (n : ℕ) (f g : ℕ → ℕ) → ((i : ℕ) → f i * 256 ≤ g i + 256) → total n f * 256 ≤ total n g + n * 256
+pub total_scaled : (n : ℕ) (f g : ℕ → ℕ) → ((i : ℕ) → f i * 512 ≤ g i + 512) → total n f * 512 ≤ total n g + n * 512
 unfolding total
 total_scaled zero f g less = omega arith
 total_scaled (suc n) f g less = let rest = total_scaled n f g less in let here = less n in omega (arith, rest, here)

@@ -8,11 +8,11 @@ use Rattle.bins.specs.Segments.{AreSegments, HoldRows, HoldsSlot, IsClosed, IsOp
 use Rattle.bins.proofs.SegmentLemmas.{inside_part}
 use Rattle.bins.proofs.SlotLemmas.{has_segment, hold_others, place, rows_pushed, rows_set, slot_before, slot_here, slot_left, slot_other, within}
 
-pub each_many : (shift : ℕ) → 8 ≤ shift → 256 ≤ 2 ^ shift
-each_many shift small = pow-le-pow_right {n = 2} (omega arith) {i = 8} {j = shift} small
+pub each_many : (shift : ℕ) → 9 ≤ shift → 512 ≤ 2 ^ shift
+each_many shift small = pow-le-pow_right {n = 2} (omega arith) {i = 9} {j = shift} small
 
 -- a few segments for the rows
-pub few_segments : (l e many : ℕ) → 256 ≤ e → l * e < many + e → l * 256 < many + 256
+pub few_segments : (l e many : ℕ) → 512 ≤ e → l * e < many + e → l * 512 < many + 512
 few_segments zero e many wide needed = omega arith
 few_segments (suc l) e many wide needed = let more = mul-le-mul_left l wide in omega (arith, more, needed)
 
@@ -46,7 +46,7 @@ module _ (segments : List (List ℕ)) (shift most w many : ℕ) (inv : AreSegmen
   pub row_inside : (at : ℕ) → at < many → at / e < length segments
   row_inside at below = within e w some at many (length segments) below inv.enough
 
-  pub few_inside : length segments * 256 < many + 256
+  pub few_inside : length segments * 512 < many + 512
   few_inside = few_segments (length segments) e many (each_many shift inv.small) inv.needed
 
   module _ (at : ℕ) (new : List ℕ) (r : KeptRow) (below : at < many)

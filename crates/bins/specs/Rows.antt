@@ -40,7 +40,7 @@ used widths = total WIDTHS (λ step. (width_at widths step).segments)
 
 -- this many segments are enough for this many rows of any widths
 abbrev pub segments_for : ℕ → ℕ
-segments_for positions = min positions (positions / 256 + (WIDTHS + 1))
+segments_for positions = min positions (positions / 512 + (WIDTHS + 1))
 
 -- there are lists for the rows of each width, and the last width takes any key and any value
 pub record AreWidths (widths : List KeptWidth) : Type 0 where

@@ -49,16 +49,16 @@ KeepsAll old new = (at many : ℕ) → length (part old at many) ≡ many → pa
 -- rows lie one after the other, and there is a row in the last segment
 pub record AreSegments (segments : List (List ℕ)) (shift most stride many : ℕ) : Type 0 where
   pub stride_is : stride ≡ HEAD_BYTES + most
-  pub small : 8 ≤ shift
+  pub small : 9 ≤ shift
   pub bounded : shift < 64
   pub shape : 2 ^ shift * stride ≤ SEGMENT_BYTES
   pub enough : many ≤ length segments * 2 ^ shift
   pub needed : length segments * 2 ^ shift < many + 2 ^ shift
   pub rows : HoldRows segments (2 ^ shift) stride many
 
--- each segment holds 256 rows or more, but the last holds one or more
+-- each segment holds 512 rows or more, but the last holds one or more
 pub record AreFew (width : KeptWidth) : Type 0 where
-  pub each : width.segments * 256 < length width.rows + 256
+  pub each : width.segments * 512 < length width.rows + 512
 
 -- only the rows may differ
 pub record IsSameBut (old new : KeptWidth) : Type 0 where

@@ -15,13 +15,24 @@ fn with_four(hash: u32, a: u8, b: u8, c: u8, d: u8) -> u32
     hash.wrapping_mul(923_521).wrapping_add(added)
 }
 
+/// Returns the hash of the first eight bytes, if they are there, and the bytes that are left: no loop is needed for them.
+#[inline(always)]
+fn hash_first(bytes: &[u8]) -> (u32, &[u8])
+    ensures { fold hash_more result.0 result.1.now ≡ fold hash_more 1 bytes.now }
+{
+    if let [a, b, c, d, e, f, g, h, after @ ..] = bytes {
+        let hash = with_four(1, *a, *b, *c, *d);
+        return (with_four(hash, *e, *f, *g, *h), after);
+    }
+    (1, bytes)
+}
+
 /// Returns the hash of all bytes but the last three at most, and these last ones.
 #[inline(always)]
 fn hash_fours(bytes: &[u8]) -> (u32, &[u8])
     ensures { fold hash_more result.0 result.1.now ≡ fold hash_more 1 bytes.now }
 {
-    let mut hash = 1;
-    let mut rest = bytes;
+    let (mut hash, mut rest) = hash_first(bytes);
     while let [a, b, c, d, after @ ..] = rest {
         hash = with_four(hash, *a, *b, *c, *d);
         rest = after;

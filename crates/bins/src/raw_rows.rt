@@ -40,32 +40,32 @@ fn open_widths(alloc: Global) -> Result<Vec<WidthRows>, NoMemory>
     ensures empty { IfOk result (λ widths. AreEmpty widths.items) }
 {
     let mut widths = Vec::with_capacity(alloc, WIDTHS)?;
-    widths.push_reserved(WidthRows::new(alloc, 0, 18, 13));
-    widths.push_reserved(WidthRows::new(alloc, 19, 32, 12));
-    widths.push_reserved(WidthRows::new(alloc, 33, 48, 12));
-    widths.push_reserved(WidthRows::new(alloc, 49, 64, 11));
-    widths.push_reserved(WidthRows::new(alloc, 65, 80, 11));
-    widths.push_reserved(WidthRows::new(alloc, 81, 100, 11));
-    widths.push_reserved(WidthRows::new(alloc, 101, 128, 10));
-    widths.push_reserved(WidthRows::new(alloc, 129, 160, 10));
-    widths.push_reserved(WidthRows::new(alloc, 161, 200, 10));
-    widths.push_reserved(WidthRows::new(alloc, 201, 248, 10));
-    widths.push_reserved(WidthRows::new(alloc, 249, 312, 9));
-    widths.push_reserved(WidthRows::new(alloc, 313, 392, 9));
-    widths.push_reserved(WidthRows::new(alloc, 393, 488, 9));
-    widths.push_reserved(WidthRows::new(alloc, 489, 608, 8));
-    widths.push_reserved(WidthRows::new(alloc, 609, 752, 8));
-    widths.push_reserved(WidthRows::new(alloc, 753, 912, 8));
-    widths.push_reserved(WidthRows::new(alloc, 913, 1_088, 8));
+    widths.push_reserved(WidthRows::new(alloc, 0, 18, 14));
+    widths.push_reserved(WidthRows::new(alloc, 19, 32, 13));
+    widths.push_reserved(WidthRows::new(alloc, 33, 48, 13));
+    widths.push_reserved(WidthRows::new(alloc, 49, 64, 12));
+    widths.push_reserved(WidthRows::new(alloc, 65, 80, 12));
+    widths.push_reserved(WidthRows::new(alloc, 81, 100, 12));
+    widths.push_reserved(WidthRows::new(alloc, 101, 128, 11));
+    widths.push_reserved(WidthRows::new(alloc, 129, 160, 11));
+    widths.push_reserved(WidthRows::new(alloc, 161, 200, 11));
+    widths.push_reserved(WidthRows::new(alloc, 201, 248, 11));
+    widths.push_reserved(WidthRows::new(alloc, 249, 312, 10));
+    widths.push_reserved(WidthRows::new(alloc, 313, 392, 10));
+    widths.push_reserved(WidthRows::new(alloc, 393, 488, 10));
+    widths.push_reserved(WidthRows::new(alloc, 489, 608, 9));
+    widths.push_reserved(WidthRows::new(alloc, 609, 752, 9));
+    widths.push_reserved(WidthRows::new(alloc, 753, 912, 9));
+    widths.push_reserved(WidthRows::new(alloc, 913, 1_088, 9));
     Ok(widths)
 }
 
 /// Returns how many segments there are at least if this many positions have room. Rows of one width leave less than a segment
-/// unused, and a segment holds 256 rows or more, so any mix of widths fits.
+/// unused, and a segment holds 512 rows or more, so any mix of widths fits.
 fn wanted_for(positions: usize) -> usize
     ensures value { result ≡ segments_for positions }
 {
-    positions.min(positions / 256 + (WIDTHS + 1))
+    positions.min(positions / 512 + (WIDTHS + 1))
 }
 
 /// Returns how many segments hold rows of a width.

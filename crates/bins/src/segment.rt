@@ -9,8 +9,8 @@ use bpf_model::limits::{KEY_BYTES, VALUE_BYTES};
 use std::alloc::Global;
 use std::marker::Model;
 
-/// The number of bytes of a segment: 256 of the longest rows.
-pub const SEGMENT_BYTES: usize = 282_112;
+/// The number of bytes of a segment: 512 of the longest rows.
+pub const SEGMENT_BYTES: usize = 564_224;
 
 /// Bytes with room for `SEGMENT_BYTES`. It is only as long as rows needed so far, so nothing beyond is touched.
 #[derive(Drop)]

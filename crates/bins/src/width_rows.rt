@@ -134,7 +134,7 @@ impl WidthRows {
     /// Makes a list without rows, for keys and values that together take from `least` to `most` bytes. A segment holds two
     /// to the power of `shift` of these rows.
     pub(crate) fn new(alloc: Global, least: usize, most: usize, shift: u32) -> WidthRows
-        requires small { 8 ≤ shift }
+        requires small { 9 ≤ shift }
         requires bounded { shift < 64 }
         requires shape { 2 ^ shift * (HEAD_BYTES + most) ≤ SEGMENT_BYTES }
         ensures rows { result.rows ≡ [] }

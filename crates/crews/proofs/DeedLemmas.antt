@@ -324,7 +324,7 @@ module _ (now : ℕ) where
   connection_same talk old (ConnectionAsked.Config words) written next new (is, kept, same) = same
 
   server_did : (talk : TalkState) (old : PassState) (asks : ServerAsked) (written : List ℕ) (next : TalkState) (new : PassState) → AnswersServer talk old asks written next new → Did old new
-  server_did talk old (ServerAsked.Info sections) written next new ((numbers, counts, says), kept) = turns_did CountsStripe counts_did each old new counts.counts counts.turns
+  server_did talk old (ServerAsked.Info sections) written next new ((numbers, calls, counts, says), kept) = turns_did CountsStripe counts_did each old new counts.counts counts.turns
   server_did talk old ServerAsked.Save written next new (fate, (is, kept, same)) = did_nothing old new same
   server_did talk old ServerAsked.SaveLater written next new (keeps, (is, kept, same)) = did_nothing old new same
   server_did talk old ServerAsked.LastSaved written next new (seconds, (is, kept, same)) = did_nothing old new same

@@ -165,6 +165,7 @@ impl<'a, H: Wait + Clock> Watcher<'a, H> {
         let entries = count_all(self.rt, self.map, pass);
         let state = self.state;
         let counts = state.counts();
+        let waits = self.map.waits();
         Numbers {
             entries,
             resident_bytes: resident_bytes().unwrap_or(0),
@@ -180,6 +181,8 @@ impl<'a, H: Wait + Clock> Watcher<'a, H> {
             misses: counts.misses,
             last_save_seconds: state.last_save() / 1000,
             is_save_failing: state.is_failing(),
+            stripe_waits: waits.times,
+            longest_wait_micros: waits.longest_micros,
             uptime_seconds: self.clock.look().saturating_sub(state.began()) / 1000,
         }
     }

@@ -66,10 +66,16 @@ saves numbers =
     metric Gauge (codes "mapd_last_save_seconds") (codes "When the last save was written, in seconds since the epoch; 0: never.") numbers.last_save_seconds
     ++ metric Gauge (codes "mapd_save_failing") (codes "1 if the last save could not be written, else 0.") (if numbers.is_save_failing then 1 else 0)
 
+abbrev pub waits : Numbers → List ℕ
+waits numbers =
+    metric Counter (codes "mapd_stripe_waits_total") (codes "Calls that waited for a stripe which another held.") numbers.stripe_waits
+    ++ metric Gauge (codes "mapd_longest_wait_microseconds") (codes "The longest that a call waited for a stripe, at least.") numbers.longest_wait_micros
+
 -- the page
 unfoldable pub text : Numbers → List ℕ
 text numbers =
     process numbers ++ clients numbers ++ commands numbers ++ requests numbers ++ refusals numbers ++ keys numbers ++ saves numbers
+    ++ waits numbers
 
 -- the head of the page's answer, by the length of the page
 abbrev pub page_head : ℕ → List ℕ

@@ -57,6 +57,10 @@ pub struct Numbers {
     pub last_save_seconds: u64,
     /// Whether the last save could not be written.
     pub is_save_failing: bool,
+    /// How often a thread waited for a stripe of the map that another held.
+    pub stripe_waits: u64,
+    /// The longest that one waited, in microseconds; it may be longer.
+    pub longest_wait_micros: u64,
     /// How long the server has run, in seconds.
     pub uptime_seconds: u64,
 }

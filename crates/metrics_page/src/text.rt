@@ -19,7 +19,7 @@ const LABELLED_BYTES: usize = 104;
 const MOST_LABELLED: usize = MOST_COMMANDS + MOST_REQUESTS + MOST_REFUSALS;
 
 /// The room for the lines of all numbers.
-pub(crate) const TEXT_BYTES: usize = 16 * METRIC_BYTES + MOST_LABELLED * LABELLED_BYTES;
+pub(crate) const TEXT_BYTES: usize = 18 * METRIC_BYTES + MOST_LABELLED * LABELLED_BYTES;
 
 /// The lines of the numbers.
 pub(crate) type Text = ArrayVec<u8, TEXT_BYTES>;
@@ -298,6 +298,28 @@ fn put_saves(text: &mut Text, numbers: &Numbers)
     );
 }
 
+/// Appends the numbers of waits.
+fn put_waits(text: &mut Text, numbers: &Numbers)
+    requires { array_vec_len text.old + 2 * METRIC_BYTES ≤ TEXT_BYTES }
+    ensures items { text.new.items ≡ text.old.items ++ spec.waits numbers.now }
+    ensures len { array_vec_len text.new ≤ array_vec_len text.old + 2 * METRIC_BYTES }
+{
+    put(
+        text,
+        Kind::Counter,
+        "mapd_stripe_waits_total",
+        "Calls that waited for a stripe which another held.",
+        numbers.stripe_waits,
+    );
+    put(
+        text,
+        Kind::Gauge,
+        "mapd_longest_wait_microseconds",
+        "The longest that a call waited for a stripe, at least.",
+        numbers.longest_wait_micros,
+    );
+}
+
 /// Returns the lines of the numbers.
 pub(crate) fn text_of(numbers: &Numbers) -> Text
     ensures { result.items ≡ text numbers.now }
@@ -310,5 +332,6 @@ pub(crate) fn text_of(numbers: &Numbers) -> Text
     put_refusals(&mut text, numbers);
     put_keys(&mut text, numbers);
     put_saves(&mut text, numbers);
+    put_waits(&mut text, numbers);
     text
 }

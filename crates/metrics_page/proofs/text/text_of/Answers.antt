@@ -19,4 +19,6 @@ returns c =
     let so-6 = more c.new-text.result.items front-5 _ _ (spec.keys c.args.numbers.now) (spec.keys c.args.numbers.now) so-5 c.put_keys.ensures.items refl in
     let front-6 : List ℕ = front-5 ++ (spec.keys c.args.numbers.now) in
     let so-7 = more c.new-text.result.items front-6 _ _ (spec.saves c.args.numbers.now) (spec.saves c.args.numbers.now) so-6 c.put_saves.ensures.items refl in
-    so-7 ∙ ap (λ (t : List ℕ). t ++ text c.args.numbers.now) c.new-text.ensures
+    let front-7 : List ℕ = front-6 ++ (spec.saves c.args.numbers.now) in
+    let so-8 = more c.new-text.result.items front-7 _ _ (spec.waits c.args.numbers.now) (spec.waits c.args.numbers.now) so-7 c.put_waits.ensures.items refl in
+    so-8 ∙ ap (λ (t : List ℕ). t ++ text c.args.numbers.now) c.new-text.ensures
