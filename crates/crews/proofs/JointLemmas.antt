@@ -86,13 +86,13 @@ module _ (k : ℕ) where
   commands_made : (talk : TalkState) (exchange : Exchange Station) (next : TalkState) → AnswersCommands talk exchange next → Exchanged exchange
   commands_made talk exchange next a =
       let (made, is, leads) = did_makes (known exchange.old) (known exchange.new)
-          (piece_did a.time talk exchange.old.pass exchange.piece exchange.written next exchange.new.pass a.answers) a.map a.team in
+      (piece_did a.time talk exchange.old.pass exchange.piece exchange.written next exchange.new.pass a.answers) a.map a.team in
       (made, inr (record { talk = talk; next = next; answers = inl a; calls = is }), leads)
 
   breaks_made : (talk : TalkState) (exchange : Exchange Station) (next : TalkState) → BreaksCommands talk exchange next → Exchanged exchange
   breaks_made talk exchange next a =
       let (made, is, leads) = did_makes (known exchange.old) (known exchange.new)
-          (part_did a.time talk exchange.old.pass exchange.piece exchange.written next exchange.new.pass a.breaks) a.map a.team in
+      (part_did a.time talk exchange.old.pass exchange.piece exchange.written next exchange.new.pass a.breaks) a.map a.team in
       (made, inr (record { talk = talk; next = next; answers = inr a; calls = is }), leads)
 
   -- ---- the exchanges of a client
