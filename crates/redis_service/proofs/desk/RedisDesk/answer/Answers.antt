@@ -10,9 +10,9 @@ returns-in-Ok-clause-answers g c =
     let now = c.args.moment.now.time in
     let talk = c.args.talk.now in
     let old = c.args.pass.now in
-    let next = c.answer_command.new.talk in
-    let new = c.answer_command.new.pass in
-    let (w, sends, answers) = c.answer_command.ensures.answers in
+    let next = c.answer_command-sent.new.talk in
+    let new = c.answer_command-sent.new.pass in
+    let (w, sends, answers) = c.answer_command-sent.ensures.answers in
     let asked = c.in-Ok.ensures.asked in (
       w,
       sends,
