@@ -1,5 +1,5 @@
 -- What commands and sweeps do, deed by deed.
-use Rattle.std.proofs.Common.{◌≡◌, ◌⊎◌, inl, inr, ℕ, zero, suc, List, [], ◌∷◌, ◌++◌, length, if◌then◌else◌, Bool, true, false, Option, Some, None, Result, Ok, Err, refl, sym, ap, subst, ◌∙◌}
+use Rattle.std.proofs.Common.{◌≡◌, ◌⊎◌, inl, inr, ℕ, zero, suc, List, [], ◌∷◌, ◌++◌, length, if◌then◌else◌, Bool, true, false, Option, Some, None, Result, Ok, Err, refl, ap, subst, ◌∙◌}
 use Rattle.std.specs.Prelude.{replicate}
 use Rattle.verifier.specs.Checked.{Checked}
 use Rattle.atomic_methods.specs.Invocations.{Invocation, on_key, remove}
@@ -7,15 +7,15 @@ use Rattle.atomic_methods.specs.declared.reply.Reply.{Reply}
 use Rattle.timed_bins.specs.declared.timing.DeadlineChange.{DeadlineChange}
 use Rattle.bin_stripes.specs.Actions.{Action, called, scanned}
 use Rattle.bin_stripes.specs.Invoked.{Makes, stripe_for, CountsStripe}
-use Rattle.bin_stripes.specs.Passes.{PassState, ServesSameMap, stripes_of}
+use Rattle.bin_stripes.specs.Passes.{PassState}
 use Rattle.bin_stripes.specs.Timed.{ExpiresOne}
 use Rattle.bin_stripes.specs.declared.expiry.Expiry.{Expiry}
 use Rattle.bin_stripes.specs.declared.expiry.Expiry.TheVariants.{Took}
-use Rattle.key_walks.specs.Turns.{Chain, InTurn, FindsKeys, MayScan, StopsIn, Stops}
-use Rattle.key_walks.specs.Expired.{Looks, AfterExpiry, FindsLive, MayScanLive, StopsLive}
+use Rattle.key_walks.specs.Turns.{Chain, InTurn, FindsKeys, MayScan, StopsIn}
+use Rattle.key_walks.specs.Expired.{Looks, AfterExpiry, FindsLive, MayScanLive}
 use Rattle.key_walks.specs.Walks as walks
-use Rattle.key_walks.specs.Walks.{Clears, each, each_from}
-use Rattle.key_walks.specs.Pages.{Part, Takes, TakesLive, stripes_from}
+use Rattle.key_walks.specs.Walks.{Clears, each}
+use Rattle.key_walks.specs.Pages.{Part, Takes, TakesLive}
 use Rattle.redis_commands.specs.Commands.{Act, Condition, Asked, Fault, ConnectionAsked, ServerAsked, WalkAsked, ProgramAsked}
 use Rattle.redis_commands.specs.Commands.Condition.{Always, IfAbsent, IfPresent, IfEqual}
 use Rattle.redis_commands.specs.declared.command.Lifetime.{Lifetime}
@@ -31,9 +31,9 @@ use Rattle.redis_service.specs.Answers.{AnswersKey, AnswersKeys, AnswersSetEach,
 use Rattle.redis_service.specs.Calls as calls
 use Rattle.redis_service.specs.Calls.{AnswersTimed, Finds, Removes, Each}
 use Rattle.redis_service.specs.Changes.{Step, stays, becomes, LosesTries, Ends, AnswersChange}
-use Rattle.redis_service.specs.Commands.{AnswersCommand, AnswersRead, AnswersWords, read_of}
-use Rattle.redis_service.specs.Connections.{Says, Renames, Greets, AnswersHello, LetsIn, LetsInBy, AnswersConnection}
-use Rattle.redis_service.specs.Programs.{Only, AnswersTime, AnswersWith, AnswersIfFit, AnswersScript, AnswersArguments, AnswersLock, AnswersDigest, AnswersText, AnswersProgram, with_time, Looks as LooksFor}
+use Rattle.redis_service.specs.Commands.{AnswersCommand, AnswersRead, read_of}
+use Rattle.redis_service.specs.Connections.{Greets, AnswersHello, LetsIn, LetsInBy, AnswersConnection}
+use Rattle.redis_service.specs.Programs.{AnswersTime, AnswersWith, AnswersIfFit, AnswersScript, AnswersArguments, AnswersLock, AnswersProgram, with_time, Looks as LooksFor}
 use Rattle.redis_service.specs.Saving.{AnswersServer}
 use Rattle.redis_service.specs.States.{TalkState, is_authenticated, is_right, showing, let_in}
 use Rattle.redis_service.specs.Sweeps.{Sweeps, SweepsStripe}

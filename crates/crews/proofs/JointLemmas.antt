@@ -1,9 +1,8 @@
 -- What crews make in their lives, and what two joined crews then have seen.
-use Rattle.std.proofs.Common.{◌≡◌, ◌⊎◌, ◌==◌, if◌then◌else◌, inl, inr, ℕ, ◌<◌, List, [], ◌∷◌, ◌++◌, All, map, Bool, true, false, Option, Some, None, refl, sym, ap, subst, ◌∙◌, append-nil, append_assoc, eq-eqb}
+use Rattle.std.proofs.Common.{◌≡◌, ◌⊎◌, ◌==◌, if◌then◌else◌, inl, inr, ℕ, ◌<◌, List, [], ◌∷◌, ◌++◌, map, Bool, true, false, Option, Some, None, refl, sym, ap, subst, ◌∙◌, append-nil, eq-eqb}
 use Rattle.stripe_rule.specs.Gains.{IsJoined}
 use Rattle.bin_stripes.specs.Histories.{own_events, Sound}
 use Rattle.bin_stripes.specs.Passes.{PassState, stripes_of}
-use Rattle.bulk_walks.specs.Walks.{Events}
 use Rattle.client_protocol.specs.Frames.{Held, held_hello}
 use Rattle.client_protocol.specs.Frames.Held.{open_at}
 use Rattle.redis_service.specs.Talks.{TalkState, begun}
@@ -18,14 +17,14 @@ use Rattle.crews.specs.declared.crew.Crew.{Crew}
 use Rattle.crews.specs.declared.talk.Talk.{Talk}
 use Rattle.crews.specs.declared.talk.Talk.TheVariants.{Frames, Commands}
 use Rattle.crews.specs.Collected.{in_order}
-use Rattle.crews.specs.Deeds.{Deed, Does, done_on, MadeByDeeds, made_for_piece, made_for_part, MadeForFrames, MadeForCommands, MadeInTurn, MadeInTurns, AreAnswered, Lives, SeesLives}
+use Rattle.crews.specs.Deeds.{Deed, Does, done_on, MadeByDeeds, MadeForFrames, MadeForCommands, MadeInTurns, AreAnswered, Lives, SeesLives}
 use Rattle.crews.specs.Lives.{Known, known, known_of, Turn, Moves, exchanges_of}
 use Rattle.crews.specs.Lives.Turn.{serves, sweeps}
-use Rattle.crews.specs.Partings.{AllSaid, AllSaidIn, LacksPiece, OwesLast, SaidInPart, OwesInAll, IsCutShort, EndsSo, SaysSo}
+use Rattle.crews.specs.Partings.{AllSaidIn, LacksPiece, OwesLast, SaidInPart, OwesInAll, IsCutShort, EndsSo, SaysSo}
 use Rattle.crews.specs.Stations.{Station}
 use Rattle.crews.specs.Steps.{CrewServes}
 use Rattle.crews.specs.Talks.{AnswersCommands, BreaksCommands, AnswersEach, Talked, Breaks}
-use Rattle.crews.specs.Whole.{CrewEvent, own, made_by_step, IsOfOneMap, Joins}
+use Rattle.crews.specs.Whole.{CrewEvent, own, made_by_step, Joins}
 use Rattle.crews.proofs.ChainLemmas.{order}
 use Rattle.crews.proofs.DeedLemmas.{Did, piece_did, part_did, sweep_did, sweep_map}
 use Rattle.crews.proofs.WholeLemmas.{Grows, Leads, stays, goes_on, nothing_grows, grows_on, grows_goes, makes_grows, same_goes, step_goes, sees_crews}
@@ -56,9 +55,6 @@ module _ (k : ℕ) where
 
   abbrev Exchanged : Exchange Station → Type 0
   Exchanged exchange = Makes (known exchange.old) (IsMade exchange) (known exchange.new)
-
-  on_stations : Station → List CrewEvent → Station → Type 0
-  on_stations a made b = Leads k (known a) made (known b)
 
   piece_made : (held : Held) (exchange : Exchange Station) (next : Held) → AnswersPiece CrewServes held exchange.old exchange.piece exchange.written next exchange.new → Exchanged exchange
   piece_made held exchange next (requests, feeds, (responses, answers, is)) =

@@ -3,7 +3,6 @@ use Rattle.std.proofs.Common.{◌≡◌, ◌≢◌, ◌⊎◌, ◌==◌, if◌th
 use Rattle.std.proofs.lemmas.Bool.{cases_eq, cases_lt}
 use Rattle.std.proofs.lemmas.List.{map-append}
 use Rattle.std.proofs.lemmas.List.Concat.{flat_map-append}
-use Rattle.stripe_rule.specs.declared.view.Event.{Event}
 use Rattle.stripe_rule.specs.declared.view.View.{View}
 use Rattle.stripe_rule.specs.History.{made_by, StartsWith}
 use Rattle.stripe_rule.specs.Gains.{seen_of, mine_of, Gains, Keeps, IsJoined}
@@ -14,7 +13,7 @@ use Rattle.bin_stripes.specs.declared.ghost_action.GhostAction.{GhostAction}
 use Rattle.bin_stripes.specs.Histories.{own_events, Sound}
 use Rattle.bin_stripes.specs.Invoked.{Makes, Calls, RefusesCall, stripe_for}
 use Rattle.bin_stripes.specs.Passes.{PassState, stripes_of}
-use Rattle.bulk_walks.specs.Walks.{Events, IsTurn, Walked, AllWalked}
+use Rattle.bulk_walks.specs.Walks.{Events, AllWalked}
 use Rattle.client_protocol.specs.declared.limits.Version.{Version}
 use Rattle.client_protocol.specs.Requests.{Request}
 use Rattle.client_protocol.specs.declared.response.Response.{Response}
@@ -25,7 +24,7 @@ use Rattle.crews.specs.Collected.{in_session}
 use Rattle.crews.specs.Crews.{station}
 use Rattle.crews.specs.Lives.{Known, known, known_of}
 use Rattle.crews.specs.Stations.{Station, no_tokens}
-use Rattle.crews.specs.Steps.{IsToldBy, Pairwise, HearsEach, TeamWalks, keeping, CrewMeets, CrewServes}
+use Rattle.crews.specs.Steps.{IsToldBy, Pairwise, HearsEach, keeping, CrewMeets, CrewServes}
 use Rattle.crews.specs.Together.{SessionsOfCrew}
 use Rattle.crews.specs.Whole.{CrewEvent, own, walked, own_of, walked_of, events_of, made_in_turn, made_by_walk, made_by_call, made_as_asked, made_by_step, made_in_sessions, team_made, crew_made, HasInOrder, SeesInOrder, SeesCrews, SeesSessions, IsOfOneMap, all_mine, Joins}
 use Rattle.crews.proofs.ChainLemmas.{session_leads}

@@ -1,4 +1,4 @@
-use Rattle.std.proofs.Common.{◌≡◌, ◌∙◌, ℕ, ap, sym, refl, subst, List, [], ◌∷◌, MatchResult, Option, Some, inl, option_copied}
+use Rattle.std.proofs.Common.{◌≡◌, ℕ, ap, sym, refl, subst, List, [], ◌∷◌, MatchResult, Option, Some, inl, option_copied}
 use Rattle.bin_stripes.specs.Passes.{stripes_of}
 use Rattle.bulk_walks.specs.Walks.{ReplacesAll}
 use Rattle.client_protocol.specs.Responses.{response_of}

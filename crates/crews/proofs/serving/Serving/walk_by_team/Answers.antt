@@ -1,10 +1,10 @@
-use Rattle.std.proofs.Common.{◌∙◌, ℕ, ap, sym, refl, subst, List, [], ◌∷◌, Option, Some, inl, option_copied}
+use Rattle.std.proofs.Common.{ℕ, ap, sym, refl, subst, List, [], ◌∷◌, Option, Some, inl, option_copied}
 use Rattle.bin_stripes.specs.Passes.{stripes_of}
 use Rattle.bulk_walks.specs.Walks.{IsWalk, Walks, AllWalked, MayScan}
 use Rattle.client_protocol.specs.Responses.{response_of}
 use Rattle.sessions.specs.Asking.{walk}
 use Rattle.crews.specs.Stations.{KeptTokens, tokens_of, Station}
-use Rattle.crews.specs.Steps.{Finds, IsNotFound, AsksWithProgram, keeping}
+use Rattle.crews.specs.Steps.{Finds, AsksWithProgram, keeping}
 use Rattle.crews.proofs.StepLemmas.{walked_by_team}
 use Rattle.crews.proofs.TokenLemmas.{walk_not_found}
 use Rattle.crews.proofs.serving.Serving.walk_by_team.Goals as goal
