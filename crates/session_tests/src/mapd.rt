@@ -86,6 +86,7 @@ fn asked(
         keep_seconds: 1,
         password_file: None,
         metrics: None,
+        slowlog_microseconds: None,
     })
 }
 
