@@ -21,7 +21,7 @@ const STRIPES: usize = MAX_STRIPES as usize;
 const YIELD_MICROS: u64 = 1;
 
 /// How long threads have waited for a map's stripes. No clock is read: a nap counts as the time asked for, and a yield as a
-/// microsecond. Both mostly take longer, so this is a lower bound, but for naps that the system ends early.
+/// microsecond. Both mostly take longer, but a yield may take less, and the system may end a nap early.
 #[derive(Clone, Copy, Debug, PartialEq, Eq)]
 pub struct Waits {
     /// How often a thread found a stripe held, or found others that had waited for long, and took it only after that.
