@@ -195,6 +195,7 @@ impl<'a, 'r, C: Channel + Drop> Attendant<'a, 'r, C> {
         requires attended { (registry : TheRegistry) × (old : Known) × (turns : List Turn)
             × IsAttended C.state P.gave registry old turns (known self.old.room.serving) self.old.came self.old.seats }
         ensures gone { get self.new.seats seat ≡ None }
+        ensures over { P.over clients.old → P.over clients.new }
         ensures others { (other : ℕ) → get self.old.seats other ≡ None → get self.new.seats other ≡ None }
         ensures there { (registry : TheRegistry) (old : Known) (turns : List Turn)
             → IsAttended C.state P.gave registry old turns (known self.old.room.serving) self.old.came self.old.seats
@@ -214,6 +215,7 @@ impl<'a, 'r, C: Channel + Drop> Attendant<'a, 'r, C> {
         requires attended { (registry : TheRegistry) × (old : Known) × (turns : List Turn)
             × IsAttended C.state P.gave registry old turns (known self.old.room.serving) self.old.came self.old.seats }
         ensures empty { slab_len self.new.seats ≡ 0 }
+        ensures over { P.over clients.old → P.over clients.new }
         ensures there { (registry : TheRegistry) (old : Known) (turns : List Turn)
             → IsAttended C.state P.gave registry old turns (known self.old.room.serving) self.old.came self.old.seats
             → CountGoes (P.there registry) clients.old (slab_len self.old.seats) clients.new (slab_len self.new.seats) }
@@ -261,6 +263,7 @@ impl<'a, 'r, C: Channel + Drop> Attendant<'a, 'r, C> {
             × IsAttended C.state P.gave worker.now.registry.now old turns (known self.old.room.serving) self.old.came self.old.seats }
         requires serves { P.serves self.old.room.serving.pass.map }
         requires desk { self.old.room.serving.pass.map ≡ self.old.room.desk }
+        ensures over { P.over clients.new }
         ensures there { CountGoes (P.there worker.now.registry.now) clients.old (slab_len self.old.seats) clients.new (slab_len self.new.seats) }
         ensures attended { (old : Known) (turns : List Turn)
             → IsAttended C.state P.gave worker.now.registry.now old turns (known self.old.room.serving) self.old.came self.old.seats
@@ -331,7 +334,8 @@ fn begun<'a, 'r, H, C: Channel + Drop, G>(
 /// in each of its turns, and answered by the crew, in the client's protocol and with the tokens of that client. Gives the crew back.
 /// What moved it is the turns of the clients and the worker's own sweeps, in one chain. Each client's turns are one conversation, as
 /// `session` has it, or one talk of the crate redis_service: its requests are those that it sent, in order, each answered once, and what
-/// is written to it are their answers. Each client that came is told to `clients` when it leaves (`there`). Scripts that clients of
+/// is written to it are their answers. Each client that came is told to `clients` when it leaves (`there`), and it comes back only after
+/// `clients` have told it to end (`over`). Scripts that clients of
 /// commands load are kept in `scripts`, and what the server knows of itself in `state`. Waits as `clients` does, and for stripes that others hold.
 pub fn attend<'a, 'r, H: Threads + Wait + Sync, C: Channel + Drop, P: Clients<C>, G: Gate + Sync>(
     worker: &Worker<'a, H, G>,
@@ -344,6 +348,7 @@ pub fn attend<'a, 'r, H: Threads + Wait + Sync, C: Channel + Drop, P: Clients<C>
     requires serves { P.serves worker.now.map.now }
     ensures life { HasLived C.state P.gave worker.now.registry.now crew result }
     ensures there { CountGoes (P.there worker.now.registry.now) clients.old 0 clients.new 0 }
+    ensures over { P.over clients.new }
     ensures crew { IsCrewOf worker.now.map.now result }
     ensures same { CarriesSame crew result }
 {

@@ -90,11 +90,15 @@ pub trait Clients<C: Channel> {
     /// and `ended` changes it.
     ghost there: { Registry → Self → ℕ → Type 0 } = { λ _ _ _. Unit {0} };
 
+    /// It has told the worker to end. Nothing but `next` does.
+    ghost over: { Self → Type 0 } = { λ _. Unit {0} };
+
     /// The next thing to do, for the worker whose pass this is and which wants to sweep then. It may wait.
     fn next(&mut self, pass: &Pass, sweep: NextSweep) -> Event<C>
         requires { serves pass.now.map }
         ensures gave { (channel : C) (protocol : TheProtocol) → result ≡ Event.Came channel protocol → gave pass.now channel protocol }
-        ensures there { (registry : Registry) → CountGoes (there registry) self.old 0 self.new (came_by result) };
+        ensures there { (registry : Registry) → CountGoes (there registry) self.old 0 self.new (came_by result) }
+        ensures over { result ≡ Event.Over → over self.new };
 
     /// The time in milliseconds since the epoch, at which commands of a client's turn are made, or a sweep. It may be any number.
     fn now(&mut self) -> u64
@@ -122,5 +126,6 @@ pub trait Clients<C: Channel> {
         parting: Parting,
     )
         requires { HasParted C.state gave pass.now channel tokens parting }
-        ensures { CountGoes (there tokens.entry.registry) self.old 1 self.new 0 };
+        ensures there { CountGoes (there tokens.entry.registry) self.old 1 self.new 0 }
+        ensures over { over self.old → over self.new };
 }

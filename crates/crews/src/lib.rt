@@ -31,7 +31,7 @@ pub use client::{session, session_with_tokens};
 pub use clients::{Clients, Event, NextSweep, Parting, Protocol, Standing};
 pub use counting::request_name;
 pub use crew::Crew;
-pub use posts::{Post, attend_each};
+pub use posts::{Attended, Post, attend_each};
 pub use server::serve;
 pub use shared::join_sessions;
 pub use tokens::Tokens;

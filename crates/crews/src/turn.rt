@@ -254,7 +254,8 @@ impl<'a, C: Channel> Client<'a, C> {
     pub fn part<P: Clients<C>>(self, clients: &mut P, pass: &Pass, seat: usize)
         requires { (registry : TheRegistry) × (old : Known) × (turns : List Turn) × (new : Known) × (came : ℕ)
             × (new.pass ≡ pass.now) × IsClient C.state P.gave registry old turns new came self }
-        ensures { CountGoes (P.there self.entry.tokens.registry) clients.old 1 clients.new 0 }
+        ensures there { CountGoes (P.there self.entry.tokens.registry) clients.old 1 clients.new 0 }
+        ensures over { P.over clients.old → P.over clients.new }
     {
         let parting = parting_of(self.leaving, self.owed.len());
         clients.ended(pass, Some(seat), self.channel, self.tokens, parting);

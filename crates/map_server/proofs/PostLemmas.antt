@@ -4,25 +4,29 @@ use Rattle.std.proofs.lemmas.List.Elements.{All-nil, All-cons, All-head, All-tai
 use Rattle.atomic_table.specs.Seated.{TableId}
 use Rattle.crews.specs.declared.crew.Crew.{Crew}
 use Rattle.crews.specs.declared.posts.Post.{Post}
-use Rattle.crews.specs.Crews.{IsCrewOf, CarriesSame, AllCarrySame}
+use Rattle.program_registry.specs.declared.registry.Registry.{Registry}
+use Rattle.crews.specs.Crews.{IsCrewOf, CarriesSame}
+use Rattle.crews.specs.Lives.{HasLived}
 use Rattle.crews.specs.Steps.{Pairwise}
+use Rattle.map_server.specs.ServerRuns.{AnyComes, HaveAttended, tells_none}
 
--- posts that came back keep what their crews carried
-pub crews_carry_same : {P : Type 0} (crews : List Crew) (olds news : List (Post P)) → map (λ post. post.crew) olds ≡ crews
-    → Pairwise (λ old new. CarriesSame old.crew new.crew) olds news → AllCarrySame crews (map (λ post. post.crew) news)
-crews_carry_same crews olds news are same = subst (λ (all : List Crew). AllCarrySame all (map (λ post. post.crew) news)) are (carried olds news same) where
-  carried : {P : Type 0} (olds news : List (Post P)) → Pairwise (λ old new. CarriesSame old.crew new.crew) olds news
-      → AllCarrySame (map (λ post. post.crew) olds) (map (λ post. post.crew) news)
-  carried [] [] same = tt
-  carried [] (new ∷ news) same = absurd same
-  carried (old ∷ olds) [] same = absurd same
-  carried (old ∷ olds) (new ∷ news) same = (same.0, carried olds news same.1)
+-- the crews of posts that came back have attended
+pub crews_attended : {P : Type 0} (registry : Registry) (crews : List Crew) (olds news : List (Post P Crew)) → map (λ post. post.crew) olds ≡ crews
+    → Pairwise (λ old new. CarriesSame old.crew new.crew) olds news → Pairwise (λ old new. HasLived tells_none AnyComes registry old.crew new.crew) olds news
+    → HaveAttended registry crews (map (λ post. post.crew) news)
+crews_attended registry crews olds news are same lived = subst (λ (all : List Crew). HaveAttended registry all (map (λ post. post.crew) news)) are (each olds news same lived) where
+  each : {P : Type 0} (olds news : List (Post P Crew)) → Pairwise (λ old new. CarriesSame old.crew new.crew) olds news
+      → Pairwise (λ old new. HasLived tells_none AnyComes registry old.crew new.crew) olds news → HaveAttended registry (map (λ post. post.crew) olds) (map (λ post. post.crew) news)
+  each [] [] same lived = tt
+  each [] (new ∷ news) same lived = absurd same
+  each (old ∷ olds) [] same lived = absurd same
+  each (old ∷ olds) (new ∷ news) same lived = (record { same = same.0; lived = lived.0 }, each olds news same.1 lived.1)
 
 -- as many came back
-pub as_many : {P : Type 0} (crews : List Crew) (olds news : List (Post P)) → map (λ post. post.crew) olds ≡ crews
+pub as_many : {P : Type 0} (crews : List Crew) (olds news : List (Post P Crew)) → map (λ post. post.crew) olds ≡ crews
     → Pairwise (λ old new. CarriesSame old.crew new.crew) olds news → length news ≡ length crews
 as_many crews olds news are same = subst (λ (all : List Crew). length news ≡ length all) are (paired olds news same) where
-  paired : {P : Type 0} (olds news : List (Post P)) → Pairwise (λ old new. CarriesSame old.crew new.crew) olds news
+  paired : {P : Type 0} (olds news : List (Post P Crew)) → Pairwise (λ old new. CarriesSame old.crew new.crew) olds news
       → length news ≡ length (map (λ post. post.crew) olds)
   paired [] [] same = refl
   paired [] (new ∷ news) same = absurd same
@@ -30,13 +34,13 @@ as_many crews olds news are same = subst (λ (all : List Crew). length news ≡ 
   paired (old ∷ olds) (new ∷ news) same = ap suc (paired olds news same.1)
 
 -- the posts of crews of this map have crews of it
-pub posts_of_map : {P : Type 0} (id : TableId) (crews : List Crew) (posts : List (Post P)) → map (λ post. post.crew) posts ≡ crews
+pub posts_of_map : {P : Type 0} (id : TableId) (crews : List Crew) (posts : List (Post P Crew)) → map (λ post. post.crew) posts ≡ crews
     → All (λ crew. IsCrewOf id crew) crews → All (λ post. IsCrewOf id post.crew) posts
 posts_of_map id crews posts are all = each posts (subst (λ (some : List Crew). All (λ crew. IsCrewOf id crew) some) (sym are) all) where
-  each : {P : Type 0} (posts : List (Post P)) → All (λ crew. IsCrewOf id crew) (map (λ post. post.crew) posts) → All (λ post. IsCrewOf id post.crew) posts
+  each : {P : Type 0} (posts : List (Post P Crew)) → All (λ crew. IsCrewOf id crew) (map (λ post. post.crew) posts) → All (λ post. IsCrewOf id post.crew) posts
   each [] all = All-nil (λ post. IsCrewOf id post.crew)
   each (post ∷ posts) all = All-cons (λ post. IsCrewOf id post.crew) post posts (All-head (λ crew. IsCrewOf id crew) _ _ all) (each posts (All-tail (λ crew. IsCrewOf id crew) _ _ all))
 
 -- and their crews are of this map
-pub crews_of_map : {P : Type 0} (id : TableId) (posts : List (Post P)) → All (λ post. IsCrewOf id post.crew) posts → All (λ crew. IsCrewOf id crew) (map (λ post. post.crew) posts)
+pub crews_of_map : {P : Type 0} (id : TableId) (posts : List (Post P Crew)) → All (λ post. IsCrewOf id post.crew) posts → All (λ crew. IsCrewOf id crew) (map (λ post. post.crew) posts)
 crews_of_map id posts all = All-map (λ crew. IsCrewOf id crew) (λ post. post.crew) posts all

@@ -1,5 +1,5 @@
 -- What a call of `mapd` does: what its words ask for, and what is told of it.
-use Rattle.std.specs.Prelude.{◌≡◌, ◌⊎◌, ℕ, true, false, is_some, if◌then◌else◌, List, ◌++◌, codes, decimal, IfOk, IsOk, IsErr}
+use Rattle.std.specs.Prelude.{◌≡◌, ◌⊎◌, ℕ, true, false, is_some, if◌then◌else◌, List, ◌++◌, Option, None, codes, decimal, IfOk, IsOk, IsErr}
 use Rattle.clap.specs.Words.{IsAmong, fault_of}
 use Rattle.clap.specs.declared.error.ErrorKind.{ErrorKind}
 use Rattle.bin_stripes.specs.Opened.{IsPassCount}
@@ -11,10 +11,20 @@ use Rattle.map_commands.specs.declared.ending.Ending.TheVariants.{Reported, Refu
 use Rattle.map_server.specs.declared.words.MapdWords.{MapdWords}
 use Rattle.map_commands.specs.Endings.{Outputs, IsHelpOrVersion, PrintsRefusal, TellsEnding}
 use Rattle.map_commands.specs.Executions.{IsBadCount}
-use Rattle.crews.specs.Crews.{AllCarrySame}
+use Rattle.mio.specs.declared.net.listener.TcpListener.{TcpListener}
+use Rattle.bin_stripes.specs.Passes.{PassState}
+use Rattle.program_registry.specs.declared.registry.Registry.{Registry}
+use Rattle.devices.specs.Channels.{ChannelState}
+use Rattle.crews.specs.declared.clients.Protocol.{Protocol}
+use Rattle.crews.specs.declared.crew.Crew.{Crew}
+use Rattle.crews.specs.Crews.{CarriesSame}
+use Rattle.crews.specs.Lives.{HasLived}
+use Rattle.crews.specs.Steps.{Pairwise}
+use Rattle.map_server.specs.declared.connection.Connection.{Connection}
+use Rattle.map_server.specs.declared.ports.Ports.{Ports}
 use Rattle.map_server.specs.declared.server.Server.{Server}
 use Rattle.map_server.specs.declared.server.Served.{Served}
-use Rattle.map_server.specs.Servers.{IsAsked, passes_of}
+use Rattle.map_server.specs.Servers.{HasPorts, IsAsked, passes_of}
 use Rattle.map_server.specs.ServerWords.{AsksServer, reader_of}
 use Rattle.map_commands.specs.Shown.{IsShown}
 
@@ -76,15 +86,37 @@ abbrev pub FailsToListen : Outputs → Outputs → ℕ → Type 0
 FailsToListen old new status =
     (status ≡ 3) × (new.output ≡ old.output) × ((why : List ℕ) × TakesIfItCan old.errors new.errors (codes "failed listen\n" ++ why))
 
--- the crews of the server served, and each came back with the numbers that it had; or memory was refused, and nobody was served
-abbrev pub ServedBy : Server → Served → Type 0
-ServedBy server served = IfOk served.crews (λ back. AllCarrySame server.crews.items back.items)
+-- a socket tells none of its bytes
+abbrev pub tells_none : Connection → ChannelState
+tells_none connection = record { left = None; held = None }
 
--- `ready` can't be printed; or it is, then a server as it is asked for serves clients, and then how that ended is printed
-abbrev pub ServesClients : MapdWords → SinkState → SinkState → ℕ → Type 0
-ServesClients asked old new status =
-    ((status ≡ 3) × TakesFront old new (codes "ready\n"))
-    ⊎ ((server : Server) × IsAsked asked server × ((served : Served) × ServedBy server served × EndsServing served old new (codes "ready\n") status))
+-- any client may come, by any port
+abbrev pub AnyComes : PassState → Connection → Protocol → Type 0
+AnyComes pass connection protocol = Unit {0}
+
+-- the crew attended clients until that was over, and came back with the numbers that it had: turns of its own clients, whose programs are all of this
+-- registry, and its own sweeps moved it, and nothing else
+pub record HasAttended (registry : Registry) (old new : Crew) : Type 0 where
+  pub same : CarriesSame old new
+  pub lived : HasLived tells_none AnyComes registry old new
+
+-- each crew did
+abbrev pub HaveAttended : Registry → List Crew → List Crew → Type 0
+HaveAttended registry olds news = Pairwise (HasAttended registry) olds news
+
+-- the crews of the server served; or memory was refused, and nobody was served
+abbrev pub ServedBy : Server → Served → Type 0
+ServedBy server served = IfOk served.crews (λ back. HaveAttended server.registry server.crews.items back.items)
+
+-- over which listener is bound to which address
+module _ (bound : TcpListener → List ℕ → Type 0) where
+  -- `ready` can't be printed; or it is, then a server as it is asked for, whose ports are bound to the addresses asked for, serves clients, and
+  -- then how that ended is printed
+  abbrev pub ServesClients : MapdWords → SinkState → SinkState → ℕ → Type 0
+  ServesClients asked old new status =
+      ((status ≡ 3) × TakesFront old new (codes "ready\n"))
+      ⊎ ((server : Server) × (ports : Ports) × (metrics : Option TcpListener) × IsAsked asked server × HasPorts bound asked ports metrics
+      × ((served : Served) × ServedBy server served × EndsServing served old new (codes "ready\n") status))
 
 -- the line of a refusal with this number
 abbrev pub refusal_line : ℕ → List ℕ
@@ -99,20 +131,22 @@ FailsToRestore asked old new status =
     ⊎ (((status ≡ 1) × ((number : ℕ) × PrintsAll old new (refusal_line number)))
     ⊎ ((status ≡ 3) × ((number : ℕ) × TakesFront old new (refusal_line number)))))
 
--- a port could not be bound; or all were, but the map was not restored from its file; or it was, or is not kept, and clients are served
-abbrev pub Listens : MapdWords → Outputs → Outputs → ℕ → Type 0
-Listens asked old new status =
-    FailsToListen old new status
-    ⊎ (FailsToRestore asked old.output new.output status ⊎ ServesClients asked old.output new.output status)
-
 -- the file of the password can't be read, or its first line is none; standard error is told why
 abbrev pub LacksPassword : MapdWords → Outputs → Outputs → ℕ → Type 0
 LacksPassword asked old new status = (is_some asked.password_file ≡ true) × (status ≡ 3) × (new.output ≡ old.output)
 
--- what a call does: its words ask for no server; or there is no password; or no map is opened; or it listens
-abbrev pub RunsMapd : List (List ℕ) → Outputs → Outputs → ℕ → Type 0
-RunsMapd words old new status =
-    ((ending : Ending) × EndsServerWords words ending × TellsEnding ending old new status)
-    ⊎ ((asked : MapdWords) × AsksServer words asked
-    × (LacksPassword asked old new status
-    ⊎ (((fault : OpenFault) × IsNotOpened asked fault × TellsOpenFault fault old new status) ⊎ (CanOpen asked × Listens asked old new status))))
+-- over which listener is bound to which address
+module _ (bound : TcpListener → List ℕ → Type 0) where
+  -- a port could not be bound; or all were, but the map was not restored from its file; or it was, or is not kept, and clients are served
+  abbrev pub Listens : MapdWords → Outputs → Outputs → ℕ → Type 0
+  Listens asked old new status =
+      FailsToListen old new status
+      ⊎ (FailsToRestore asked old.output new.output status ⊎ ServesClients bound asked old.output new.output status)
+
+  -- what a call does: its words ask for no server; or there is no password; or no map is opened; or it listens
+  abbrev pub RunsMapd : List (List ℕ) → Outputs → Outputs → ℕ → Type 0
+  RunsMapd words old new status =
+      ((ending : Ending) × EndsServerWords words ending × TellsEnding ending old new status)
+      ⊎ ((asked : MapdWords) × AsksServer words asked
+      × (LacksPassword asked old new status
+      ⊎ (((fault : OpenFault) × IsNotOpened asked fault × TellsOpenFault fault old new status) ⊎ (CanOpen asked × Listens asked old new status))))

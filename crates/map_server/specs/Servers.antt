@@ -1,5 +1,6 @@
 -- What `mapd` serves, as its words ask for it.
-use Rattle.std.specs.Prelude.{◌≡◌, ℕ, ◌+◌, ◌*◌, List, All, if◌then◌else◌, is_some, map, vec_len}
+use Rattle.std.specs.Prelude.{◌≡◌, ℕ, ◌+◌, ◌*◌, List, All, Option, None, Some, String, if◌then◌else◌, is_some, map, string_bytes, vec_len}
+use Rattle.mio.specs.declared.net.listener.TcpListener.{TcpListener}
 use Rattle.stripe_rule.specs.Rule.{from_on}
 use Rattle.bin_stripes.specs.Passes.{stripes_of}
 use Rattle.crews.specs.declared.crew.Crew.{Crew}
@@ -22,10 +23,20 @@ protocols_of asked = record { frames = is_some asked.listen; commands = is_some 
 abbrev pub passes_of : MapdWords → ℕ
 passes_of asked = asked.workers * (1 + asked.team) + (if is_some asked.keep then 1 else 0) + (if is_some asked.metrics then 1 else 0)
 
--- there is a port for each of these protocols, and no other
-pub record HasPorts (protocols : Protocols) (ports : Ports) : Type 0 where
-  pub frames : is_some ports.frames ≡ protocols.frames
-  pub commands : is_some ports.commands ≡ protocols.commands
+-- over which listener is bound to which address
+module _ (bound : TcpListener → List ℕ → Type 0) where
+  -- there is a listener if there is an address, and it is bound to that one
+  abbrev pub IsBoundTo : Option String → Option TcpListener → Type 0
+  IsBoundTo None None = Unit {0}
+  IsBoundTo None (Some listener) = ⊥
+  IsBoundTo (Some address) None = ⊥
+  IsBoundTo (Some address) (Some listener) = bound listener (string_bytes address)
+
+  -- there is a port at each address that is asked for, and no other: for frames, for commands, and for readers of the server's numbers
+  pub record HasPorts (asked : MapdWords) (ports : Ports) (metrics : Option TcpListener) : Type 0 where
+    pub frames : IsBoundTo asked.listen ports.frames
+    pub commands : IsBoundTo asked.redis ports.commands
+    pub metrics : IsBoundTo asked.metrics metrics
 
 -- the map has the stripes that are asked for; the crews are those that are asked for; each of them may serve as many sessions
 -- as are asked for, within the limits that are, which also say which commands are kept for SLOWLOG; clients speak the protocols of the ports

@@ -20,12 +20,12 @@ use std::time::Duration;
 /// How often it is looked whether somebody asks for a save, in milliseconds.
 const LOOK_MILLIS: u64 = 100;
 
-/// What a server works with: the runtime, the allocator, and where its file is.
+/// What a server works with: the runtime, the allocator, and the machine's files and ports.
 #[derive(Drop)]
 pub(crate) struct Host<'a, H, K> {
     pub(crate) rt: &'a H,
     pub(crate) alloc: Global,
-    pub(crate) files: &'a K,
+    pub(crate) machine: &'a K,
 }
 
 /// A map that is kept: what keeps it, the name of its file, and how many seconds it is from one save to the next.
@@ -89,7 +89,7 @@ fn restored_from<H: Wait + Clock, K: Opener>(
     requires { pass.map ≡ shared.now.map.now }
     ensures { IfOk result (λ restored. (pass_of restored.0).map ≡ shared.now.map.now) }
 {
-    let file = host.files.open(path)?;
+    let file = host.machine.open(path)?;
     let mut keeper = Keeper::new(host.alloc, file, pass)?;
     let now = WallClock::new(host.rt).look();
     let restored = keeper.restore(host.rt, shared, now)?;

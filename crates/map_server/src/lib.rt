@@ -49,7 +49,7 @@ pub use map_commands::{
 };
 pub use map_keeper::{HostFiles, KeepFault, KeptFile, OnDisk, Opener};
 pub use passwords::PasswordFiles;
-pub use ports::Ports;
+pub use ports::{Binder, Ports, first_listener};
 pub use program::mapd_on;
 pub use quotas::Quotas;
 pub use server::{Protocols, Served, Server};

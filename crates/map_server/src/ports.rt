@@ -1,9 +1,9 @@
 //! The ports that clients come to, one for each protocol that they speak.
 ghost use Rattle.std.specs.Prelude.{◌≡◌, IfOk, is_some};
-ghost use Rattle.map_server.specs.Servers.{HasPorts, protocols_of};
+ghost use Rattle.map_server.specs.Servers.{IsBoundTo};
 
-use crate::words::MapdWords;
 use crews::Protocol;
+use map_keeper::HostFiles;
 use mio::net::TcpListener;
 use mio::unix::SourceFd;
 use mio::{Interest, Poll, Token};
@@ -44,8 +44,27 @@ impl<'a> From<io::Error> for ListenFault<'a> {
     }
 }
 
+/// What binds listeners.
+pub trait Binder {
+    ghost use Rattle.std.specs.Prelude.{ℕ, List, IfOk};
+    ghost use Rattle.mio.specs.declared.net.listener.TcpListener.{TcpListener as TheListener};
+
+    /// The listener is bound to this address, as a text. Nothing but `bind` tells it.
+    ghost bound: { TheListener → List ℕ → Type 0 } = { λ _ _. Unit {0} };
+
+    /// A listener at the first of the name's addresses that can be bound. An error is the system's.
+    fn bind<H: Net>(&self, rt: &H, address: &str) -> io::Result<TcpListener>
+        ensures { IfOk result (λ listener. bound listener address.now) };
+}
+
+impl Binder for HostFiles<'_> {
+    fn bind<H: Net>(&self, rt: &H, address: &str) -> io::Result<TcpListener> {
+        first_listener(rt, address)
+    }
+}
+
 /// A listener at the first of the name's addresses that can be bound.
-fn listen<H: Net>(rt: &H, address: &str) -> io::Result<TcpListener> {
+pub fn first_listener<H: Net>(rt: &H, address: &str) -> io::Result<TcpListener> {
     let mut last = io::Error::from(ErrorKind::InvalidInput);
     for address in address.to_socket_addrs(rt)? {
         match TcpListener::bind(rt, address) {
@@ -57,17 +76,18 @@ fn listen<H: Net>(rt: &H, address: &str) -> io::Result<TcpListener> {
 }
 
 /// A listener at the address, if there is one.
-pub(crate) fn listen_at<'a, H: Net>(
+pub(crate) fn listen_at<'a, H: Net, K: Binder>(
     rt: &H,
+    binder: &K,
     address: &'a Option<String>,
 ) -> Result<Option<TcpListener>, ListenFault<'a>>
-    ensures { IfOk result (λ listener. is_some listener ≡ is_some address.now) }
+    ensures { IfOk result (λ listener. IsBoundTo K.bound address.now listener) }
 {
     let Some(address) = address else {
         return Ok(None);
     };
     let address = address.as_str();
-    match listen(rt, address) {
+    match binder.bind(rt, address) {
         Ok(listener) => Ok(Some(listener)),
         Err(error) => Err(ListenFault {
             address: Some(address),
@@ -103,15 +123,6 @@ pub(crate) fn add_line(
 }
 
 impl Ports {
-    /// The ports that are asked for, bound. An error tells why there are none.
-    pub(crate) fn bind<'a, H: Net>(rt: &H, asked: &'a MapdWords) -> Result<Ports, ListenFault<'a>>
-        ensures { IfOk result (HasPorts (protocols_of asked.now)) }
-    {
-        let frames = listen_at(rt, &asked.listen)?;
-        let commands = listen_at(rt, &asked.redis)?;
-        Ok(Ports { frames, commands })
-    }
-
     /// The listener of the port whose clients speak this protocol; none if there is no such port.
     pub(crate) fn listener(&self, protocol: Protocol) -> Option<&TcpListener> {
         match protocol {

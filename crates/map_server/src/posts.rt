@@ -1,12 +1,13 @@
 //! The workers, each with clients of its own.
 ghost use Rattle.std.specs.Prelude.{◌≡◌, ◌≤◌, [], IfOk, All, map, vec_len, vec_capacity};
-ghost use Rattle.crews.specs.Crews.{AllCarrySame, IsCrewOf};
+ghost use Rattle.crews.specs.Crews.{IsCrewOf};
+ghost use Rattle.map_server.specs.ServerRuns.{HaveAttended};
 
 use crate::entrance::Entrance;
 use crate::tcp_clients::TcpClients;
 use bin_stripes::OpenGate;
 use bpf_model::NoMemory;
-use crews::{Crew, Post, Worker, attend_each};
+use crews::{Attended, Crew, Post, Worker, attend_each};
 use devices::Sink;
 use mio::Poll;
 use redis_scripts::Scripts;
@@ -22,7 +23,7 @@ fn posts_of<'a, 'b, 'c, H: Wait + Clock, E: Sink>(
     entrance: &'a Entrance<'b, 'c, H, E>,
     crews: Vec<Crew>,
     polls: Vec<Poll>,
-) -> Result<Vec<Post<TcpClients<'a, 'b, 'c, H, E>>>, NoMemory>
+) -> Result<Vec<Post<TcpClients<'a, 'b, 'c, H, E>, Crew>>, NoMemory>
     requires { vec_len polls ≡ vec_len crews }
     ensures { IfOk result (λ posts. map (λ post. post.crew) posts.items ≡ crews.items) }
 {
@@ -39,7 +40,10 @@ fn posts_of<'a, 'b, 'c, H: Wait + Clock, E: Sink>(
 }
 
 /// The crews of the posts, in the room that is there.
-fn crews_of<P: Drop>(posts: Vec<Post<P>>, mut crews: Vec<Crew>) -> Vec<Crew>
+fn crews_of<P: Drop>(
+    posts: Vec<Post<P, Attended>>,
+    mut crews: Vec<Attended>,
+) -> Vec<Attended>
     requires empty { crews.items ≡ [] }
     requires room { vec_len posts ≤ vec_capacity crews }
     ensures { result.items ≡ map (λ post. post.crew) posts.items }
@@ -58,10 +62,10 @@ pub(crate) fn attend_all<'a, 'r, H: Threads + Wait + Clock + Sync, E: Sink + Sen
     entrance: &Entrance<'a, '_, H, E>,
     crews: Vec<Crew>,
     polls: Vec<Poll>,
-) -> Result<Vec<Crew>, NoMemory>
+) -> Result<Vec<Attended>, NoMemory>
     requires crews { All (λ crew. IsCrewOf worker.now.map.now crew) crews.items }
     requires polls { vec_len polls ≡ vec_len crews }
-    ensures same { IfOk result (λ back. AllCarrySame crews.items back.items) }
+    ensures lived { IfOk result (λ back. HaveAttended worker.now.registry.now crews.items back.items) }
     ensures map { IfOk result (λ back. All (λ crew. IsCrewOf worker.now.map.now crew) back.items) }
 {
     let back = Vec::with_capacity(worker.alloc, crews.len())?;

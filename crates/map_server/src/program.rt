@@ -11,7 +11,7 @@ ghost use Rattle.map_server.specs.ServerWords.{reader_of, IsWordsFault};
 use crate::keeping::{Host, restored, tell_fault_of_file};
 use crate::opening::open_server;
 use crate::passwords::{PasswordFiles, given_password, tell_no_password};
-use crate::ports::ListenFault;
+use crate::ports::{Binder, ListenFault};
 use crate::server::{Served, Server};
 use crate::tcp::{Bound, Ready, bind, serve_ports};
 use crate::telling::Telling;
@@ -188,7 +188,7 @@ fn tell_not_restored<W: Sink, E: Sink>(
 
 /// Tells the addresses that were bound, restores the map if it is kept, prints `ready`, serves clients until each worker has ended, and
 /// answers the status.
-fn serve_bound<H: Threads + Wait + Clock + Sync, K: Opener, W: Sink, E: Sink + Send>(
+fn serve_bound<H: Threads + Wait + Clock + Sync, K: Opener + Binder, W: Sink, E: Sink + Send>(
     host: &Host<'_, H, K>,
     asked: &MapdWords,
     bound: (Bound, Server),
@@ -199,9 +199,9 @@ fn serve_bound<H: Threads + Wait + Clock + Sync, K: Opener, W: Sink, E: Sink + S
     requires warns { CanWrite (E.state errors.old) }
     requires asked { IsAsked asked.now bound.1 }
     requires polls { vec_len bound.0.polls ≡ vec_len bound.1.crews }
-    requires ports { HasPorts bound.1.protocols bound.0.gates.ports }
+    requires ports { HasPorts K.bound asked.now bound.0.gates.ports bound.0.metrics }
     ensures { FailsToRestore asked.now (W.state writer.old) (W.state writer.new) result
-        ⊎ ServesClients asked.now (W.state writer.old) (W.state writer.new) result }
+        ⊎ ServesClients K.bound asked.now (W.state writer.old) (W.state writer.new) result }
 {
     let (bound, server) = bound;
     let mut telling = Telling::new(errors);
@@ -248,7 +248,12 @@ fn serve_bound<H: Threads + Wait + Clock + Sync, K: Opener, W: Sink, E: Sink + S
 }
 
 /// Listens and serves, and answers the status.
-fn listen<H: Threads + Wait + Clock + Net + Sync, K: Opener, W: Sink, E: Sink + Send>(
+fn listen<
+    H: Threads + Wait + Clock + Net + Sync,
+    K: Opener + Binder,
+    W: Sink,
+    E: Sink + Send,
+>(
     host: &Host<'_, H, K>,
     asked: &MapdWords,
     server: Server,
@@ -258,10 +263,10 @@ fn listen<H: Threads + Wait + Clock + Net + Sync, K: Opener, W: Sink, E: Sink + 
     requires writes { CanWrite (W.state writer.old) }
     requires warns { CanWrite (E.state errors.old) }
     requires asked { IsAsked asked.now server }
-    ensures { Listens asked.now (outputs (W.state writer.old) (E.state errors.old))
+    ensures { Listens K.bound asked.now (outputs (W.state writer.old) (E.state errors.old))
         (outputs (W.state writer.new) (E.state errors.new)) result }
 {
-    match bind(host.rt, host.alloc, asked, server.crews.len()) {
+    match bind(host, asked, server.crews.len()) {
         Ok(bound) => serve_bound(host, asked, (bound, server), writer, errors),
         Err(fault) => tell_failed_listen(host.alloc, &fault, errors),
     }
@@ -289,28 +294,28 @@ fn drawn_seed<R: RandomSource>(rt: &R) -> Seed {
 
 /// Does what the words ask for (the first is the program's name), and returns the status: 0 if it served as many sessions
 /// as it was asked for, 1 for a refusal, 2 for a fault of the words, which standard error is told in clap's text, and 3 for
-/// a failed listen, accept, write or last save, or a file that can't be used, which it is told in a line. `files` has the file in which
-/// the map is kept, if it is, and that of the password. Waits for clients.
+/// a failed listen, accept, write or last save, or a file that can't be used, which it is told in a line. `machine` has the file in
+/// which the map is kept, if it is, and that of the password, and binds the ports. Waits for clients.
 pub fn mapd_on<
     H: Threads + Wait + Clock + RandomSource + Net + Sync,
-    K: Opener + PasswordFiles,
+    K: Opener + PasswordFiles + Binder,
     W: Sink,
     E: Sink + Send,
->(rt: &H, alloc: Global, files: &K, words: &[&str], writer: &mut W, errors: &mut E) -> u8
+>(rt: &H, alloc: Global, machine: &K, words: &[&str], writer: &mut W, errors: &mut E) -> u8
     requires writes { CanWrite (W.state writer.old) }
     requires warns { CanWrite (E.state errors.old) }
-    ensures runs { RunsMapd (texts words.now) (outputs (W.state writer.old) (E.state errors.old))
+    ensures runs { RunsMapd K.bound (texts words.now) (outputs (W.state writer.old) (E.state errors.old))
         (outputs (W.state writer.new) (E.state errors.new)) result }
 {
     let asked = match mapd_words(alloc, words) {
         Ok(asked) => asked,
         Err(fault) => return ending_of_fault(alloc, &fault, words).tell(writer, errors),
     };
-    let password = match given_password(files, &asked) {
+    let password = match given_password(machine, &asked) {
         Ok(password) => password,
         Err(fault) => return tell_no_password(alloc, &asked, &fault, errors),
     };
-    let host = Host { rt, alloc, files };
+    let host = Host { rt, alloc, machine };
     match open_server(alloc, &asked, drawn_seed(rt)) {
         Ok(server) => listen(&host, &asked, server.locked_by(password), writer, errors),
         Err(fault) => tell_fault(fault, writer, errors),

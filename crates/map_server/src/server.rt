@@ -7,7 +7,7 @@ use crate::arrivals::Limits;
 use crate::quotas::Quotas;
 use bin_stripes::{Pass, StripedMap};
 use bpf_model::NoMemory;
-use crews::Crew;
+use crews::{Attended, Crew};
 use program_registry::Registry;
 use server_state::Password;
 
@@ -46,7 +46,7 @@ pub struct Server {
 #[derive(Drop)]
 pub struct Served {
     /// The crews; or `NoMemory` if a request for the lists of workers was refused.
-    pub crews: Result<Vec<Crew>, NoMemory>,
+    pub crews: Result<Vec<Attended>, NoMemory>,
     /// How many clients were handed out.
     pub streams: u64,
     /// An accept failed, or the last save of the map.

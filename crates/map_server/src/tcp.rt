@@ -1,14 +1,15 @@
 //! The ports that `mapd` listens on, and their clients.
 ghost use Rattle.std.specs.Prelude.{◌≡◌, IfOk, IfSome, IsErr, IsSomeAnd, All, Some, vec_len};
-ghost use Rattle.crews.specs.Crews.{AllCarrySame, IsCrewOf};
+ghost use Rattle.crews.specs.Crews.{IsCrewOf};
 ghost use Rattle.map_keeper.specs.Keepers.{pass_of};
-ghost use Rattle.map_server.specs.Servers.{HasPorts, protocols_of};
+ghost use Rattle.map_server.specs.Servers.{HasPorts};
+ghost use Rattle.map_server.specs.ServerRuns.{HaveAttended};
 
 use crate::arrivals::{Arrivals, Limits};
 use crate::entrance::{Entrance, Gates};
-use crate::keeping::{Bell, Kept, Saver};
+use crate::keeping::{Bell, Host, Kept, Saver};
 use crate::metrics::{Watch, Watcher};
-use crate::ports::{ListenFault, Ports, WAKE, add_line, listen_at};
+use crate::ports::{Binder, ListenFault, Ports, WAKE, add_line, listen_at};
 use crate::posts::attend_all;
 use crate::quotas::Quotas;
 use crate::server::Served;
@@ -17,7 +18,7 @@ use crate::wall_clock::WallClock;
 use crate::words::MapdWords;
 use bin_stripes::{OpenGate, Pass};
 use bpf_model::NoMemory;
-use crews::{Crew, Worker};
+use crews::{Attended, Crew, Worker};
 use devices::Sink;
 use map_keeper::Shared;
 use mio::net::TcpListener;
@@ -64,19 +65,21 @@ fn polls_of<H: Net>(rt: &H, alloc: Global, ports: &Ports, workers: usize) -> io:
 }
 
 /// The ports that are asked for, bound, and watched by the polls of this number of workers. An error tells why there are none.
-pub(crate) fn bind<'a, H: Net>(
-    rt: &H,
-    alloc: Global,
+pub(crate) fn bind<'a, H: Net, K: Binder>(
+    host: &Host<'_, H, K>,
     asked: &'a MapdWords,
     workers: usize,
 ) -> Result<Bound, ListenFault<'a>>
     ensures polls { IfOk result (λ bound. vec_len bound.polls ≡ workers) }
-    ensures ports { IfOk result (λ bound. HasPorts (protocols_of asked.now) bound.gates.ports) }
+    ensures ports { IfOk result (λ bound. HasPorts K.bound asked.now bound.gates.ports bound.metrics) }
 {
-    let ports = Ports::bind(rt, asked)?;
+    let (rt, alloc, machine) = (host.rt, host.alloc, host.machine);
+    let frames = listen_at(rt, machine, &asked.listen)?;
+    let commands = listen_at(rt, machine, &asked.redis)?;
+    let metrics = listen_at(rt, machine, &asked.metrics)?;
+    let ports = Ports { frames, commands };
     let polls = polls_of(rt, alloc, &ports, workers)?;
     let wakers = wakers_of(alloc, &ports, &polls)?;
-    let metrics = listen_at(rt, &asked.metrics)?;
     let mut lines = ports.lines(alloc)?;
     add_line(alloc, &mut lines, "metrics on", &metrics)?;
     Ok(Bound {
@@ -141,12 +144,12 @@ fn attend_and_keep<'a, 'r, H: Threads + Wait + Clock + Sync, E: Sink + Send>(
     crews: Vec<Crew>,
     polls: Vec<Poll>,
     kept: Kept<'_>,
-) -> (Result<Vec<Crew>, NoMemory>, bool)
+) -> (Result<Vec<Attended>, NoMemory>, bool)
     requires crews { All (λ crew. IsCrewOf worker.now.map.now crew) crews.items }
     requires polls { vec_len polls ≡ vec_len crews }
     requires kept { (pass_of kept.keeper).map ≡ shared.now.map.now }
     ensures { IfOk result.0 (λ back.
-        AllCarrySame crews.items back.items × All (λ crew. IsCrewOf worker.now.map.now crew) back.items) }
+        HaveAttended worker.now.registry.now crews.items back.items × All (λ crew. IsCrewOf worker.now.map.now crew) back.items) }
 {
     let bell = Bell::new();
     let bell = &bell;
@@ -163,10 +166,10 @@ fn attend_and_keep<'a, 'r, H: Threads + Wait + Clock + Sync, E: Sink + Send>(
     };
     // For the proof: a closure that moves its captures on can't be known by what it ensures, so it takes them out of this.
     let mut given = Some((crews, polls));
-    let serving = move || -> Result<Vec<Crew>, NoMemory>
+    let serving = move || -> Result<Vec<Attended>, NoMemory>
         requires { IsSomeAnd given (λ given. All (λ crew. IsCrewOf worker.now.map.now crew) given.0.items × (vec_len given.1 ≡ vec_len given.0)) }
         ensures { IfOk result (λ back. IfSome given.entry (λ given.
-            AllCarrySame given.0.items back.items × All (λ crew. IsCrewOf worker.entry.now.map.now crew) back.items)) }
+            HaveAttended worker.entry.now.registry.now given.0.items back.items × All (λ crew. IsCrewOf worker.entry.now.map.now crew) back.items)) }
     {
         let Some((crews, polls)) = given.take() else {
             unreachable!()
@@ -187,12 +190,12 @@ fn attend<'a, 'r, H: Threads + Wait + Clock + Sync, E: Sink + Send>(
     crews: Vec<Crew>,
     polls: Vec<Poll>,
     kept: Option<Kept<'_>>,
-) -> (Result<Vec<Crew>, NoMemory>, bool)
+) -> (Result<Vec<Attended>, NoMemory>, bool)
     requires crews { All (λ crew. IsCrewOf worker.now.map.now crew) crews.items }
     requires polls { vec_len polls ≡ vec_len crews }
     requires kept { IfSome kept (λ kept. (pass_of kept.keeper).map ≡ shared.now.map.now) }
     ensures { IfOk result.0 (λ back.
-        AllCarrySame crews.items back.items × All (λ crew. IsCrewOf worker.now.map.now crew) back.items) }
+        HaveAttended worker.now.registry.now crews.items back.items × All (λ crew. IsCrewOf worker.now.map.now crew) back.items) }
 {
     match kept {
         None => (
@@ -211,13 +214,13 @@ fn attend_and_watch<'a, 'r, H: Threads + Wait + Clock + Sync, E: Sink + Send>(
     posts: (Vec<Crew>, Vec<Poll>),
     kept: Option<Kept<'_>>,
     watch: Watch,
-) -> (Result<Vec<Crew>, NoMemory>, bool)
+) -> (Result<Vec<Attended>, NoMemory>, bool)
     requires crews { All (λ crew. IsCrewOf worker.now.map.now crew) posts.0.items }
     requires polls { vec_len posts.1 ≡ vec_len posts.0 }
     requires kept { IfSome kept (λ kept. (pass_of kept.keeper).map ≡ shared.now.map.now) }
     requires watch { watch.pass.map ≡ shared.now.map.now }
     ensures { IfOk result.0 (λ back.
-        AllCarrySame posts.0.items back.items × All (λ crew. IsCrewOf worker.now.map.now crew) back.items) }
+        HaveAttended worker.now.registry.now posts.0.items back.items × All (λ crew. IsCrewOf worker.now.map.now crew) back.items) }
 {
     let bell = Bell::new();
     let bell = &bell;
@@ -227,12 +230,12 @@ fn attend_and_watch<'a, 'r, H: Threads + Wait + Clock + Sync, E: Sink + Send>(
     { Watcher::new(rt, state, map).watch(watch, bell) };
     // For the proof: a closure that moves its captures on can't be known by what it ensures, so it takes them out of this.
     let mut given = Some((posts, kept));
-    let serving = move || -> (Result<Vec<Crew>, NoMemory>, bool)
+    let serving = move || -> (Result<Vec<Attended>, NoMemory>, bool)
         requires { IsSomeAnd given (λ given. All (λ crew. IsCrewOf worker.now.map.now crew) given.0.0.items
             × (vec_len given.0.1 ≡ vec_len given.0.0)
             × IfSome given.1 (λ kept. (pass_of kept.keeper).map ≡ shared.now.map.now)) }
         ensures { IfOk result.0 (λ back. IfSome given.entry (λ given.
-            AllCarrySame given.0.0.items back.items × All (λ crew. IsCrewOf worker.entry.now.map.now crew) back.items)) }
+            HaveAttended worker.entry.now.registry.now given.0.0.items back.items × All (λ crew. IsCrewOf worker.entry.now.map.now crew) back.items)) }
     {
         let Some(((crews, polls), kept)) = given.take() else {
             unreachable!()
@@ -287,7 +290,7 @@ pub(crate) fn serve_ports<'a, H: Threads + Wait + Clock + Sync, E: Sink + Send>(
     requires kept { IfSome kept (λ kept. (pass_of kept.keeper).map ≡ shared.now.map.now) }
     requires watch { IfSome ready.watch (λ watch. watch.pass.map ≡ shared.now.map.now) }
     ensures { IfOk result.0.crews (λ back.
-        AllCarrySame ready.crews.items back.items × All (λ crew. IsCrewOf shared.now.map.now crew) back.items) }
+        HaveAttended shared.now.registry.now ready.crews.items back.items × All (λ crew. IsCrewOf shared.now.map.now crew) back.items) }
 {
     let began = WallClock::new(rt).look();
     let workers = ready.crews.len() as u64;

@@ -3,9 +3,10 @@ mod clients;
 
 use crate::bpfmap::memory::{ROOM, Room};
 use map_server::{
-    KeepFault, KeptFile, MapdWords, OnDisk, Opener, PasswordFiles, StreamSink, WordsFault, mapd_on,
-    mapd_words,
+    Binder, KeepFault, KeptFile, MapdWords, OnDisk, Opener, PasswordFiles, StreamSink, WordsFault,
+    first_listener, mapd_on, mapd_words,
 };
+use mio::net::TcpListener as Listener;
 use std::alloc::{AllocError, Global};
 use std::io;
 use std::net::{Net, TcpListener, TcpStream};
@@ -23,7 +24,7 @@ struct Outcome {
     errors: Vec<u8>,
 }
 
-/// There is no file.
+/// There is no file; ports are bound as they are by `mapd`.
 #[derive(Clone, Copy)]
 struct NoFiles;
 
@@ -36,6 +37,12 @@ impl Opener for NoFiles {
 impl PasswordFiles for NoFiles {
     fn read_start(&self, _path: &str, _room: &mut [u8]) -> io::Result<usize> {
         Err(io::Error::from(io::ErrorKind::NotFound))
+    }
+}
+
+impl Binder for NoFiles {
+    fn bind<H: Net>(&self, rt: &H, address: &str) -> io::Result<Listener> {
+        first_listener(rt, address)
     }
 }
 

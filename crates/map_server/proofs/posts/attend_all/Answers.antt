@@ -1,7 +1,8 @@
 use Rattle.std.proofs.Common.{List, All, sym, subst, arith}
 use Rattle.crews.specs.declared.crew.Crew.{Crew}
-use Rattle.crews.specs.Crews.{IsCrewOf, AllCarrySame}
-use Rattle.map_server.proofs.PostLemmas.{crews_carry_same, as_many, posts_of_map, crews_of_map}
+use Rattle.crews.specs.Crews.{IsCrewOf}
+use Rattle.map_server.proofs.PostLemmas.{crews_attended, as_many, posts_of_map, crews_of_map}
+use Rattle.map_server.specs.ServerRuns.{HaveAttended}
 use Rattle.map_server.proofs.posts.attend_all.Goals as goal
 
 pub attend_each-requires-clause-crews : goal.attend_each-requires-clause-crews
@@ -18,10 +19,10 @@ crews_of-requires-clause-room g c =
       as_many c.args.crews.items c.in_ok-posts.posts.items c.in_ok-attended.attended.items c.in_ok-posts.ensures c.in_ok-attended.ensures.same,
     )
 
-pub returns-clause-same : goal.returns-clause-same
-returns-clause-same g c =
-    subst (λ (all : List Crew). AllCarrySame c.args.crews.items all) (sym c.crews_of.ensures)
-    (crews_carry_same c.args.crews.items c.in_ok-posts.posts.items c.in_ok-attended.attended.items c.in_ok-posts.ensures c.in_ok-attended.ensures.same)
+pub returns-clause-lived : goal.returns-clause-lived
+returns-clause-lived g c =
+    subst (λ (all : List Crew). HaveAttended c.args.worker.now.registry.now c.args.crews.items all) (sym c.crews_of.ensures)
+    (crews_attended c.args.worker.now.registry.now c.args.crews.items c.in_ok-posts.posts.items c.in_ok-attended.attended.items c.in_ok-posts.ensures c.in_ok-attended.ensures.same c.in_ok-attended.ensures.lived)
 
 pub returns-clause-map : goal.returns-clause-map
 returns-clause-map g c =

@@ -1,7 +1,7 @@
 use Rattle.std.proofs.Common.{inl, inr, subst, Vec}
 use Rattle.std.specs.Prelude.{codes, IfOk}
 use Rattle.std.proofs.lemmas.Result.{IfOk-weaker}
-use Rattle.crews.specs.Crews.{AllCarrySame}
+use Rattle.map_server.specs.ServerRuns.{HaveAttended}
 use Rattle.map_server.proofs.ServerRunLemmas.{serving_after}
 use Rattle.map_server.proofs.program.serve_bound.Goals as goal
 
@@ -18,4 +18,5 @@ returns g c =
     let ends =
     serving_after served (g.W.Sink.state c.args.writer.now) (g.W.Sink.state c.print_at_once.new.writer) (g.W.Sink.state c.finish.new.writer) (codes "ready\n") c.finish.result
     c.in_default.ensures.ok c.finish.ensures in
-    inr (inr (c.args.bound.1, c.requires.asked, (served, subst (λ crews. IfOk served.crews (λ back. AllCarrySame crews.items back.items)) c.new-ready.ensures.crews same, ends)))
+    inr (inr (c.args.bound.1, c.args.bound.0.gates.ports, c.args.bound.0.metrics, c.requires.asked, c.requires.ports,
+      (served, subst (λ crews. IfOk served.crews (λ back. HaveAttended c.args.bound.1.registry crews.items back.items)) c.new-ready.ensures.crews same, ends)))

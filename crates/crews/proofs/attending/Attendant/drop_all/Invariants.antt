@@ -15,6 +15,7 @@ invariant-loop-seat g l = record {
   there : (registry : Registry) (old : Known) (turns : List Turn)
       → IsAttended g.C.Channel.state g.P.Clients.gave registry old turns (known l.fn.self.room.serving) l.fn.self.came l.fn.self.seats
       → CountGoes (g.P.Clients.there registry) l.fn.clients (slab_len l.fn.self.seats) l.clients (slab_len l.self.seats);
+  over : g.P.Clients.over l.fn.clients → g.P.Clients.over l.clients;
   below : (seat : ℕ) → seat < l.seat → get l.self.seats seat ≡ None;
   above : (seat : ℕ) → l.seat-end ≤ seat → get l.self.seats seat ≡ None;
 }

@@ -30,7 +30,7 @@ returns-clause-there g c registry old turns attended =
     let client = c.in-Some.client in
     let of = client_of g.C.Channel.state g.P.Clients.gave registry old turns (known s.room.serving) s.came client (client_in g.C.Channel.state g.P.Clients.gave registry old turns (known s.room.serving) s.came s.seats c.args.seat client attended c.in-Some.ensures.value) in
     let n = slab_len c.try_remove.new.self in
-    counts_by (g.P.Clients.there registry) c.args.clients.now c.part.new.clients 1 0 n (slab_len c.args.self.now.seats) n (omega (arith, c.in-Some.ensures.len)) (omega arith) (counts_of g.P.Clients.there client.tokens.registry registry c.args.clients.now c.part.new.clients 1 0 of c.part.ensures)
+    counts_by (g.P.Clients.there registry) c.args.clients.now c.part.new.clients 1 0 n (slab_len c.args.self.now.seats) n (omega (arith, c.in-Some.ensures.len)) (omega arith) (counts_of g.P.Clients.there client.tokens.registry registry c.args.clients.now c.part.new.clients 1 0 of c.part.ensures.there)
 
 pub returns-clause-attended : goal.returns-clause-attended
 returns-clause-attended g c registry old turns attended =

@@ -13,7 +13,7 @@ part-requires g c =
 pub returns-then-has_left-clause-there : goal.returns-then-has_left-clause-there
 returns-then-has_left-clause-there g c =
     let n = slab_len c.args.self.now.seats in
-    counts_by (g.P.Clients.there c.args.client.tokens.registry) c.args.clients.now c.part.new.clients 1 0 n (n + 1) n (omega arith) (omega arith) c.part.ensures
+    counts_by (g.P.Clients.there c.args.client.tokens.registry) c.args.clients.now c.part.new.clients 1 0 n (n + 1) n (omega arith) (omega arith) c.part.ensures.there
 
 pub returns-then-has_left-clause-attended : goal.returns-then-has_left-clause-attended
 returns-then-has_left-clause-attended g c registry old turns attended none is = attended
