@@ -15,6 +15,7 @@ from __future__ import annotations
 import argparse
 import os
 import re
+import subprocess
 import sys
 import tempfile
 from collections.abc import Iterator
@@ -36,7 +37,7 @@ JAVA_PAGES = "clients/java/tests/bpfmap/AllTests.java"
 
 # A page, which of its blocks (`is_meant` says how that reads), and the test that runs them.
 CLAIMED: list[tuple[str, str, str]] = [
-    ("README.md", "```python", PYTHON_PAGES),
+    ("README.md", "from bpfmap import SUM, Client, function", PYTHON_PAGES),
     ("clients/c/README.md", "```c", "clients/c/test"),
     ("clients/c/README.md", "```sh", "clients/c/test"),
     ("clients/c/README.md", "```text", "clients/c/test"),
@@ -49,13 +50,13 @@ CLAIMED: list[tuple[str, str, str]] = [
     ("docs/RECIPES.md", "```sh", "tests/recipes.py"),
     ("docs/RECIPES.md", "```python", "tests/recipes.py"),
     ("docs/RECIPES.md", "```text", "tests/recipes.py"),
-    ("docs/REDIS.md", "```python", "tests/redis_client.py"),
-    ("docs/REDIS.md", "```text", "tests/redis_client.py"),
+    ("docs/REDIS.md", "```python 3", "tests/redis_client.py"),
+    ("docs/REDIS.md", "```text 3", "tests/redis_client.py"),
     ("docs/SERVER.md", "# /etc/stunnel/mapd.conf", "tests/tls.sh"),
     ("docs/SERVER.md", "# /etc/stunnel/map.conf", "tests/tls.sh"),
-    ("docs/SHARDING.md", "```yaml", "tests/redis_sharded.py"),
-    ("docs/SHARDING.md", "```python", "tests/redis_client.py"),
-    ("examples/clients/README.md", "```text", PYTHON_PAGES),
+    ("docs/SHARDING.md", "# /etc/nutcracker/nutcracker.yml", "tests/redis_sharded.py"),
+    ("docs/SHARDING.md", "import hashlib", "tests/redis_client.py"),
+    ("examples/clients/README.md", "```text 3", PYTHON_PAGES),
 ]
 
 
@@ -103,9 +104,10 @@ def blocks_of(page: Page) -> list[Block]:
 
 
 def is_meant(block: Block, which: str) -> bool:
-    """Whether these words mean the block: ```sh by its kind, ### NAME by how the heading above it begins, and else by its first line."""
+    """Whether these words mean the block: ```sh by its kind, ```sh 3 if there are three of them, ### NAME by how the heading above it
+    begins, and else by its first line."""
     if which.startswith("```"):
-        return which[3:] == block.kind
+        return which[3:].split()[0] == block.kind
     if which.startswith("### "):
         return block.heading.startswith(which)
     return block.text.partition("\n")[0] == which
@@ -134,8 +136,10 @@ def fault_of(block: Block) -> Optional[str]:
 def faults_of_rows(blocks: list[Block]) -> Iterator[str]:
     """Rows of both tables that mean no block, and tests that don't name the page that they are said to run."""
     for page, which, *_ in [*CLAIMED, *PLAYED]:
-        if not any(block.page == page and is_meant(block, which) for block in blocks):
-            yield f"{page}: a row means no block: {which}"
+        count = sum(block.page == page and is_meant(block, which) for block in blocks)
+        counted = re.fullmatch(r"```\w+ (\d+)", which)
+        if count == 0 or counted and count != int(counted[1]):
+            yield f"{page}: a row means {count} blocks: {which}"
     for page, _, test in CLAIMED:
         if not (ROOT / test).is_file() or Path(page).name not in (ROOT / test).read_text(encoding="utf-8"):
             yield f"{page}: {test} does not name it"
@@ -159,7 +163,7 @@ def play_all(blocks: list[Block], bpfmap: Path, mapd: Path) -> tuple[list[str], 
                 plays_of(block)[0](block, tools)
             except Missing as tool:
                 missing[str(tool)] = missing.get(str(tool), 0) + 1
-            except (Wrong, wire.Ended) as wrong:
+            except (Wrong, wire.Ended, OSError, ValueError, IndexError, subprocess.SubprocessError) as wrong:
                 faults.append(f"{block.page}:{block.line}: {wrong}")
     return faults, missing
 

@@ -84,6 +84,14 @@ class Tools:
 Play = Callable[[Block, Tools], None]
 
 
+def first(pattern: str, text: str) -> str:
+    """What the first group of the pattern matches in this text."""
+    found = re.search(pattern, text, re.MULTILINE)
+    if not found:
+        raise Wrong(f"it has nothing like {pattern}")
+    return found[1]
+
+
 def agree(found: str, wanted: str) -> None:
     """Fails at the first line in which the two differ."""
     for one, other in zip_longest(found.splitlines(), wanted.splitlines()):
@@ -194,11 +202,11 @@ def without_mending(text: str) -> Iterator[str]:
 
 def refused_in_c(block: Block, tools: Tools) -> None:
     """Lines of the program in C that the heading names; or a listing and, after an empty line, what `check` says of it."""
-    name = re.search(r"`(\w+\.c)`", block.heading)[1]
+    name = first(r"`(\w+\.c)`", block.heading)
     source = (ROOT / "examples/c/refused" / name).read_text(encoding="utf-8")
     listing, _, told = block.text.partition("\n\n")
     if told.startswith("refused "):
-        agree(tools.check(listing + "\n", *re.search(r"sizes: ([\w -]+)", source)[1].split()), told)
+        agree(tools.check(listing + "\n", *first(r"sizes: ([\w -]+)", source).split()), told)
     else:
         same(f"whether it stands in {name}", stripped(block.text) in stripped("\n".join(without_mending(source))), True)
 
@@ -219,13 +227,13 @@ def built_and_refused(block: Block, tools: Tools) -> None:
 
 def same_text(block: Block, tools: Tools) -> None:
     """A program's text, which becomes a program and then a text again."""
-    text = re.search(r'"(.+)"', block.text)[1].replace("\\n", "\n")
+    text = first(r'"(.+)"', block.text).replace("\\n", "\n")
     agree(tools.bpfmap("disasm", text=tools.bpfmap("asm", text=text)), text)
 
 
 def refused_text(block: Block, tools: Tools) -> None:
     """A program's text, and the number and unit by which it is refused."""
-    text, refusal = re.search(r'"(.+)"', block.text)[1].replace("\\n", "\n"), re.search(r"\d+ at \d+$", block.text.strip())[0]
+    text, refusal = first(r'"(.+)"', block.text).replace("\\n", "\n"), first(r"(\d+ at \d+)$", block.text)
     same("the verdict", tools.check(text).partition("\n")[0], f"refused {refusal}")
 
 
@@ -250,13 +258,6 @@ def report(block: Block, tools: Tools) -> None:
     finally:
         server.end()
     agree(tools.shell(f"mapd --kept {file}"), block.text)
-
-
-def unit(block: Block, tools: Tools) -> None:
-    """The lines of a unit that start a server and end it in order, with another folder."""
-    start, stop = (re.search(rf"^{name}=(/.*)$", block.text, re.MULTILINE)[1] for name in ("ExecStart", "ExecStop"))
-    text = f"{start} &\n{stop}\nwait $!\necho $?\n".replace("/usr/local/sbin/", "").replace("/usr/bin/", "")
-    agree(tools.shell(on_free_ports(text.replace("/var/lib/mapd/", "unit-"))), "0\n")
 
 
 def backup(block: Block, tools: Tools) -> None:
@@ -297,7 +298,6 @@ PLAYED: list[tuple[str, str, Play]] = [
     ("docs/C.md", "### `", refused_in_c),
     ("docs/C.md", "build: my.c: 13 units, --key 64 --old 8 --arg 1 --result 8: refused 42 at 6: unit 6: stb [r3+0], 1: the address does not "
      "point into a window: line 15: flags[place & 7] = 1;", built_and_refused),
-    ("docs/KEEPING.md", "```ini", unit),
     ("docs/KEEPING.md", "redis-cli -p 6379 save", backup),
     ("docs/KEEPING.md", 'sqlite3 backup/map.db "', query),
     ("docs/PROGRAMS.md", "ldb r9, [r1+0]", masked_load),
