@@ -13,6 +13,7 @@ By hand, after `rt run` in crates/bpfmap and crates/mapd: python3 tests/listings
 from __future__ import annotations
 
 import argparse
+import itertools
 import os
 import re
 import subprocess
@@ -30,6 +31,8 @@ from listings_played import PLAYED, Block, Missing, Play, Tools  # noqa: E402
 from pages import FENCE, HEADING, LIST_ITEM, ROOT, Page  # noqa: E402
 from wire import Wrong  # noqa: E402
 
+# What may go wrong with a block. Python's own faults come of pages that read otherwise than before.
+FAILURES = (Missing, Wrong, wire.Ended, OSError, ValueError, IndexError, subprocess.SubprocessError)
 MARK = re.compile(r"^\s*<!-- not run: *(.*?) *-->$")
 
 PYTHON_PAGES = "clients/python/tests/test_pages.py"
@@ -149,23 +152,32 @@ def faults_of_marks(page: Page) -> Iterator[str]:
     """Marks that stand before no block."""
     lines = [*page.text.splitlines(), ""]
     begins = {begin for begin, _, _ in spans_of(lines)}
-    yield from (f"{page.name}:{at + 1}: the mark stands before no block" for at, line in enumerate(lines) if MARK.match(line) and at + 1 not in begins)
+    alone = (at for at, line in enumerate(lines) if MARK.match(line) and at + 1 not in begins)
+    yield from (f"{page.name}:{at + 1}: the mark stands before no block" for at in alone)
 
 
-def play_all(blocks: list[Block], bpfmap: Path, mapd: Path) -> tuple[list[str], dict[str, int]]:
-    """Runs and compares these blocks: the faults, and by each tool that is missing how many were left out."""
-    faults: list[str] = []
-    missing: dict[str, int] = {}
+def play_page(blocks: list[Block], bpfmap: Path, mapd: Path) -> Iterator[tuple[Block, Exception]]:
+    """Runs and compares these blocks of one page in a folder of their own, and tells of those that fail or can't be run."""
     with tempfile.TemporaryDirectory() as folder:
         tools = Tools(bpfmap.resolve(), mapd.resolve(), Path(folder))
         for block in blocks:
             try:
                 plays_of(block)[0](block, tools)
-            except Missing as tool:
-                missing[str(tool)] = missing.get(str(tool), 0) + 1
-            except (Wrong, wire.Ended, OSError, ValueError, IndexError, subprocess.SubprocessError) as wrong:
-                faults.append(f"{block.page}:{block.line}: {wrong}")
-    return faults, missing
+            except FAILURES as failure:
+                yield block, failure
+
+
+def play_all(blocks: list[Block], bpfmap: Path, mapd: Path) -> Iterator[str]:
+    """Runs and compares these blocks: yields the faults, and prints for each tool that is missing how many were left out."""
+    missing: dict[str, int] = {}
+    for _, group in itertools.groupby(blocks, key=lambda block: block.page):
+        for block, failure in play_page(list(group), bpfmap, mapd):
+            if isinstance(failure, Missing):
+                missing[str(failure)] = missing.get(str(failure), 0) + 1
+            else:
+                yield f"{block.page}:{block.line}: {failure}"
+    for tool, count in missing.items():
+        print(f"listings: no {tool} here, so {count} blocks were not run")
 
 
 def main() -> int:
@@ -184,13 +196,11 @@ def main() -> int:
         for program in (given.bpfmap, given.program):
             if not os.access(program, os.X_OK):
                 sys.exit(f"{program} is not built; run the gate first")
-        told, missing = play_all([block for block in played if not given.page or block.page in given.page], given.bpfmap, given.program)
-        faults += told
-        for tool, count in missing.items():
-            print(f"listings: no {tool} here, so {count} blocks were not run")
+        faults += play_all([block for block in played if not given.page or block.page in given.page], given.bpfmap, given.program)
     print("".join(f"FAILED: {fault}\n" for fault in faults), end="")
     claimed, marked = sum(bool(tests_of(block)) for block in blocks), sum(block.reason is not None for block in blocks)
-    print(f"listings: {len(blocks)} blocks: {len(played)} are run or compared here, {claimed} by other tests, {marked} are marked; {len(faults)} faults")
+    print(f"listings: {len(blocks)} blocks: {len(played)} are run or compared here, {claimed} by other tests, {marked} are marked; "
+          f"{len(faults)} faults")
     return 1 if faults else 0
 
 
