@@ -19,8 +19,8 @@ from wire import Wrong, same
 ROOT = Path(__file__).resolve().parent.parent
 # How long a block may run, in seconds.
 PATIENCE = 120
-# What blocks need that a machine may not have.
-TOOLS = ("clang-19", "gcc", "redis-cli", "sqlite3", "xxd")
+# What blocks of a shell need that a machine may not have.
+TOOLS = ("redis-cli", "sqlite3", "xxd")
 RT_TRY = re.compile(r"cd crates/(\w+) && rt try (?:--seconds \d+ )?-- ")
 STARTED = re.compile(r"^(mapd .*127\.0\.0\.1:(\d+).*) &$", re.MULTILINE)
 
@@ -40,6 +40,13 @@ class Block(NamedTuple):
 
 class Missing(Exception):
     """A tool is missing."""
+
+
+def need(*tools: str) -> None:
+    """Fails if one of these tools is missing."""
+    for tool in tools:
+        if not shutil.which(tool):
+            raise Missing(tool)
 
 
 class Tools:
@@ -66,9 +73,7 @@ class Tools:
 
     def shell(self, text: str) -> str:
         """What a shell prints on both streams. What it leaves running is ended."""
-        for tool in TOOLS:
-            if re.search(rf"\b{tool}\b", text) and not shutil.which(tool):
-                raise Missing(tool)
+        need(*(tool for tool in TOOLS if re.search(rf"\b{tool}\b", text)))
         process = subprocess.Popen(["bash", "-c", text], cwd=self.folder, env=self.environment, text=True, start_new_session=True,
                                    stdin=subprocess.DEVNULL, stdout=subprocess.PIPE, stderr=subprocess.STDOUT)
         try:
@@ -213,15 +218,14 @@ def refused_in_c(block: Block, tools: Tools) -> None:
 
 def first_in_c(block: Block, tools: Tools) -> None:
     """The first program in C, by whichever clang there is. The page says in backquotes what its run prints."""
-    for tool in ("clang", "llvm-objcopy", "llvm-readelf", "gcc"):
-        if not shutil.which(tool):
-            raise Missing(tool)
+    need("clang", "llvm-objcopy", "llvm-readelf", "gcc")
     printed = tools.shell(on_free_ports(re.sub(r"^apt-get .*\n", "", block.text))).splitlines()[-1]
     same(f"whether the page says {printed}", f"It prints `{printed}`." in (ROOT / block.page).read_text(encoding="utf-8"), True)
 
 
 def built_and_refused(block: Block, tools: Tools) -> None:
     """What `build` says of a program that is refused, by clang 19."""
+    need("clang-19", "llvm-objcopy-19", "llvm-readelf-19", "llvm-symbolizer-19")
     agree(tools.shell("cp examples/c/refused/local_array.c my.c; CLANG=clang-19 examples/c/build my.c > my.hex"), block.text)
 
 
@@ -277,8 +281,7 @@ def backup(block: Block, tools: Tools) -> None:
 
 def query(block: Block, tools: Tools) -> None:
     """A query of the copy that the block above made."""
-    if not shutil.which("redis-cli"):
-        raise Missing("redis-cli")
+    need("redis-cli")
     agree(tools.shell(block.text), "user:1|5|\nuser:2|3|2100-01-01 00:00:00\n")
 
 
