@@ -1,5 +1,5 @@
 """A map of one key at a time, by the tables of docs/PROTOCOL.md alone: what a request answers on an old value, and what value it
-leaves. Its programs are those of docs/PROGRAMS.md and two more; each stands here as bytes and, beside them, as what it means."""
+leaves. Its programs are those of docs/PROGRAMS.md and more; each stands here as bytes and, beside them, as what it means."""
 from __future__ import annotations
 
 import random

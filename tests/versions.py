@@ -127,7 +127,7 @@ COMPUTES = (model.COMPUTE, model.COMPUTE_IF_ABSENT, model.COMPUTE_IF_PRESENT)
 COMPUTE_IF_ABSENT, COMPUTE_IF_PRESENT = COMPUTES[1:]
 
 SCENES: dict[str, list[Turn]] = {
-    "the table of docs/PROTOCOL.md": [
+    "a value that is too long, by both versions": [
         new(put(A, LONG), NONE), new(get(A), wire.value(LONG)), old(get(A), TOO_LONG), old(remove(A), TOO_LONG), old(get(A), NONE),
         old(wire.register((64, 1024, 0, 0), model.PROGRAMS[model.ADD].code), wire.refused(47)), old(put(A, LONG), wire.refused(62))],
     "values that both versions carry": [

@@ -1,6 +1,7 @@
 /* Refused: a loop with a `break` at a number that is not known is not written out, and jumps back.
  *
- * sizes: --key 64 --old 8 --arg 1 --result 8 */
+ * sizes: --key 64 --old 8 --arg 1 --result 8
+ * listing: none, since number and unit say enough */
 #include "bpfmap.h"
 
 PROGRAM

@@ -1,7 +1,8 @@
 /* Refused: the compiler knows that 8 and sixteen times a count have no bit in common, and joins them by `or`. Of that the verifier
  * knows no more than the highest bit.
  *
- * sizes: --key 64 --old 8 --arg 1 --result 72 */
+ * sizes: --key 64 --old 8 --arg 1 --result 72
+ * listing: none, since number and unit say enough */
 #include "bpfmap.h"
 
 PROGRAM

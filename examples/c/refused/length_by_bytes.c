@@ -1,7 +1,8 @@
 /* Refused: memcpy says that the length may lie at any address, so the compiler loads it as single bytes and puts them together
  * in a register that it then tests by its low half.
  *
- * sizes: --key 64 --old 16 --arg 1 --result 16 */
+ * sizes: --key 64 --old 16 --arg 1 --result 16
+ * listing: none, since number and unit say enough */
 #include "bpfmap.h"
 
 PROGRAM

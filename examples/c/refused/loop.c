@@ -1,6 +1,7 @@
 /* Refused: a loop whose number of turns is not known stays a loop, and jumps back.
  *
- * sizes: --key 8 --old 8 --arg 8 --result 8 */
+ * sizes: --key 8 --old 8 --arg 8 --result 8
+ * listing: none, since number and unit say enough */
 #include "bpfmap.h"
 
 PROGRAM

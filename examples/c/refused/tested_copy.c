@@ -1,7 +1,8 @@
 /* Refused: a copy of the place is tested, and the register that it was copied from moves the address. The verifier keeps no
  * relation between the two.
  *
- * sizes: --key 64 --old 8 --arg 2 --result 8 */
+ * sizes: --key 64 --old 8 --arg 2 --result 8
+ * listing: none, since number and unit say enough */
 #include "bpfmap.h"
 
 PROGRAM

@@ -1,7 +1,8 @@
 /* Refused: a number of 32 bits is tested by its low half. The verifier takes such a test for one of the whole register only where
  * it knows that the number is below 2^31.
  *
- * sizes: --key 64 --old 16 --arg 1 --result 16 */
+ * sizes: --key 64 --old 16 --arg 1 --result 16
+ * listing: none, since number and unit say enough */
 #include "bpfmap.h"
 
 PROGRAM

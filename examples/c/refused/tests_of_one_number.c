@@ -1,6 +1,7 @@
 /* Refused: the compiler makes one choice of the three tests of one number. The ways share a block, and one jumps back to it.
  *
- * sizes: --key 64 --old 24 --arg 1 --result 24 */
+ * sizes: --key 64 --old 24 --arg 1 --result 24
+ * listing: none, since number and unit say enough */
 #include "bpfmap.h"
 
 PROGRAM
