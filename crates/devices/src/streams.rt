@@ -136,7 +136,7 @@ pub struct StreamSink<W: Flush> {
     writer: W,
     keeps_back: bool,
     failures: u64,
-    ghost flushed: { keeps_back ≡ false → W.flushed writer },
+    ghost flushed: { keeps_back ≡ false → ∥ W.flushed writer ∥₁ },
 }
 
 impl<W: Flush> StreamSink<W> {
