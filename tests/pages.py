@@ -24,7 +24,7 @@ MOST_WORDS = 30
 LEAST_IFS = 4
 LEAST_PAGE = 300
 MOST_OF_README = 700
-MOST_OF_DOCS = 38_500
+MOST_OF_DOCS = 25_400
 
 # A list of what was done needs no conditions.
 WITHOUT_IFS = ("CHANGELOG.md",)

@@ -11,14 +11,14 @@ use Rattle.crews.specs.Arrivals.{CountGoes}
 use Rattle.crews.specs.Crews.{IsCrewOf, CarriesSame}
 use Rattle.crews.specs.Lives.{HasLived}
 
-module _ {C P : Type 0} (state : C → ChannelState) (gave : PassState → C → Protocol → Type 0) (registry : Registry) (there : P → ℕ → Type 0) (over : P → Type 0) where
+module _ {C P : Type 0} (state : C → ChannelState) (gave : PassState → C → Protocol → Type 0) (registry : Registry) (there : P → ℕ → Type 0) (is_over : P → Type 0) where
   -- a post before and after its crew attended clients of this map
   pub record IsAttendedPost (id : TableId) (old new : Post P Crew) : Type 0 where
     pub map : IsCrewOf id new.crew
     pub same : CarriesSame old.crew new.crew
     pub lived : HasLived state gave registry old.crew new.crew
     pub count : CountGoes there old.clients 0 new.clients 0
-    pub over : over new.clients
+    pub over : is_over new.clients
 
   -- the seat of such a post
   abbrev pub IsAttendedSeat : TableId → Option (Post P Crew) → Option (Post P Crew) → Type 0

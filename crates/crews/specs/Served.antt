@@ -1,5 +1,5 @@
 -- How a crew served clients one after the other: what each session was, and that nothing else moved the crew.
-use Rattle.std.specs.Prelude.{◌≡◌, ℕ, zero, suc, List, Option, Some}
+use Rattle.std.specs.Prelude.{◌≡◌, ℕ, zero, suc, List, Option, Some, None}
 use Rattle.std.specs.Io.KnownBytes.{Appends, Consumes}
 use Rattle.program_registry.specs.declared.registry.Registry.{Registry}
 use Rattle.devices.specs.Devices.{SourceState, SinkState}
@@ -48,3 +48,8 @@ module _ {R W : Type 0} (source : R → SourceState) (sink : W → SinkState) (g
   abbrev pub HasServedClients : Registry → Option Crew → Option Crew → Type 0
   HasServedClients registry (Some old) (Some new) = (n : ℕ) × ServesClients registry n old new
   HasServedClients registry old new = ⊥
+
+-- it holds of the crew that was brought back to its seat
+abbrev pub CameBack : (Crew → Type 0) → Option Crew → Option Crew → Type 0
+CameBack over old (Some new) = over new
+CameBack over old None = ⊥

@@ -1,7 +1,7 @@
 //! Crews that serve clients, each in a thread of its own.
 ghost use Rattle.std.specs.Prelude.{ℕ, All, IfOk, IsSomeAnd};
 ghost use Rattle.crews.specs.Crews.{IsCrewOf, IsServed, CarriesSame, AllCarrySame};
-ghost use Rattle.crews.specs.Served.{ServesClients, AllServeClients, HasServedClients};
+ghost use Rattle.crews.specs.Served.{ServesClients, AllServeClients, HasServedClients, CameBack};
 
 use crate::accept::Accept;
 use crate::client::session_with_tokens;
@@ -31,6 +31,7 @@ fn serve_clients<
     ensures of { IsCrewOf worker.now.map.now result }
     ensures same { CarriesSame crew result }
     ensures served { (n : ℕ) × ServesClients R.state W.state A.gave worker.now.registry.now n crew result }
+    ensures over { A.over result }
 {
     let mut crew = crew;
     for _ in worker.rt.forever() {
@@ -46,8 +47,9 @@ fn serve_clients<
 
 /// Runs one worker a crew, each in a thread of its own if one can be made, and each serving its clients one after the other
 /// until `accept` has none for it. Gives the crews back in their order, each of this map with the numbers that it carried, and moved by
-/// nothing but the sessions of clients that its worker was given, one after the other, with tokens of this registry (`served`). `NoMemory`
-/// if a request for the lists of workers was refused: nobody is served then, and the crews are given up. Waits for clients.
+/// nothing but the sessions of clients that its worker was given, one after the other, with tokens of this registry (`served`), until it
+/// was told that none comes any more (`over`). `NoMemory` if a request for the lists of workers was refused: nobody is served then, and the
+/// crews are given up. Waits for clients.
 pub fn serve<
     H: Threads + Wait + Sync,
     R: Source + Sync,
@@ -68,6 +70,7 @@ pub fn serve<
     ensures same { IfOk result (λ back. AllCarrySame crews.items back.items) }
     ensures map { IfOk result (λ back. All (λ crew. IsCrewOf map.now crew) back.items) }
     ensures served { IfOk result (λ back. AllServeClients R.state W.state A.gave registry.now crews.items back.items) }
+    ensures over { IfOk result (λ back. All A.over back.items) }
 {
     let count = crews.len();
     let seats = Vec::with_capacity(alloc, count)?;
@@ -77,6 +80,7 @@ pub fn serve<
         requires { IsSomeAnd seat.old (λ crew. IsCrewOf map.now crew) × A.serves accept.now map.now registry.now }
         ensures of { IsServed map.entry.now seat.old seat.new }
         ensures served { HasServedClients R.state W.state A.gave registry.entry.now seat.old seat.new }
+        ensures over { CameBack A.over seat.old seat.new }
     {
         if let Some(crew) = seat.take() {
             let worker = Worker {

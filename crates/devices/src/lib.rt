@@ -18,4 +18,4 @@ pub use failed::Failed;
 pub use owed::{Owed, Taking};
 pub use sink::{Sink, write_all};
 pub use source::{ReadAfterFlush, ReadFault, Source, read_all};
-pub use streams::{StreamSink, StreamSource};
+pub use streams::{Flush, StreamSink, StreamSource};

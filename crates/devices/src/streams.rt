@@ -1,5 +1,5 @@
 //! Readers and writers of `std::io` as devices.
-ghost use Rattle.std.specs.Prelude.{◌≡◌, true};
+ghost use Rattle.std.specs.Prelude.{◌≡◌, true, false, OnOk};
 ghost use Rattle.std.specs.Io.{ReadsAtMost, WritesAtMost};
 ghost use Rattle.std.specs.Io.KnownBytes.{Keeps, ReadConsumes, WriteAppends};
 
@@ -45,12 +45,30 @@ fn write_again<W: Write>(writer: &mut W, bytes: &[u8]) -> io::Result<usize>
     Err(io::Error::from(ErrorKind::Interrupted))
 }
 
+/// A writer that passes on what it kept back. Each writer of `std::io` is one.
+pub trait Flush: Write {
+    /// The writer was flushed, and has taken nothing since. Nothing but `pass_on` tells it.
+    ghost flushed: { Self → Type 0 } = { λ _. Unit {0} };
+
+    /// Flushes once.
+    fn pass_on(&mut self) -> io::Result<()>
+        ensures bytes { Keeps (Self.contents self.old) (Self.contents self.new) }
+        ensures flushed { OnOk result (flushed self.new) };
+}
+
+impl<W: Write> Flush for W {
+    fn pass_on(&mut self) -> io::Result<()> {
+        self.flush()
+    }
+}
+
 /// Flushes once, and again if a signal interrupts it.
-fn flush_again<W: Write>(writer: &mut W) -> io::Result<()>
+fn flush_again<W: Flush>(writer: &mut W) -> io::Result<()>
     ensures bytes { Keeps (W.contents writer.old) (W.contents writer.new) }
+    ensures flushed { OnOk result (W.flushed writer.new) }
 {
     for _ in 0..u64::MAX {
-        match writer.flush() {
+        match writer.pass_on() {
             Ok(()) => return Ok(()),
             Err(e) => {
                 if e.kind() != ErrorKind::Interrupted {
@@ -112,15 +130,16 @@ impl<R: Read> Source for StreamSource<R> {
 }
 
 /// A writer as a `Sink`. It tells its bytes if the writer does. A write that takes no byte has failed. The writer may
-/// keep bytes back until it is flushed.
+/// keep bytes back until it is flushed: the sink says that it keeps none only if it flushed the writer after the last write.
 #[derive(Drop)]
-pub struct StreamSink<W> {
+pub struct StreamSink<W: Flush> {
     writer: W,
     keeps_back: bool,
     failures: u64,
+    ghost flushed: { keeps_back ≡ false → ∥ W.flushed writer ∥₁ },
 }
 
-impl<W: Write> StreamSink<W> {
+impl<W: Flush> StreamSink<W> {
     /// Makes a sink that has not failed. The writer may still keep back bytes that it took before.
     pub fn new(writer: W) -> StreamSink<W>
         ensures { ⟦<StreamSink<W> as Sink>⟧.state result
@@ -141,7 +160,7 @@ impl<W: Write> StreamSink<W> {
     }
 }
 
-impl<W: Write> Sink for StreamSink<W> {
+impl<W: Flush> Sink for StreamSink<W> {
     ghost state = { λ s. record {
       held = W.contents s.writer;
       keeps_back = s.keeps_back;

@@ -1,7 +1,7 @@
 use Rattle.std.proofs.Common.{◌≡◌, ◌<◌, List, Option, Some, length, map, sym, subst, slice_index_or}
 use Rattle.crews.specs.declared.crew.Crew.{Crew}
 use Rattle.crews.specs.Crews.{IsCrewOf, IsServed, CarriesSame}
-use Rattle.crews.specs.Served.{HasServedClients}
+use Rattle.crews.specs.Served.{HasServedClients, CameBack}
 use Rattle.crews.proofs.ServeLemmas.{served_some}
 use Rattle.crews.proofs.ThreadLemmas.{EachSeat, pairwise_of, all_of, each_seated, each_left}
 use Rattle.crews.proofs.server.serve.Goals as goal
@@ -48,7 +48,20 @@ served_clients g c =
       λ i d low.
           let one = all.each i d tt low in
           subst (λ (old : Option Crew). HasServedClients g.R.Source.state g.W.Sink.state g.A.Accept.gave c.args.registry.now old (slice_index_or left i d)) one.argument_is
-          (subst (λ (new : Option Crew). HasServedClients g.R.Source.state g.W.Sink.state g.A.Accept.gave c.args.registry.now one.argument.now new) one.left one.call.1),
+          (subst (λ (new : Option Crew). HasServedClients g.R.Source.state g.W.Sink.state g.A.Accept.gave c.args.registry.now one.argument.now new) one.left one.call.1.0),
+    )
+
+-- and that nobody came any more
+over : (g : _) (c : In-Ok g) → EachSeat (CameBack g.A.Accept.over) (map Some c.args.crews.items) c.work-seats.result.0.items
+over g c =
+    let all = rw c.in-Ok.is at c.work-seats.ensures in
+    let left = c.work-seats.result.0.items in
+    subst (λ (seats : List (Option Crew)). EachSeat (CameBack g.A.Accept.over) seats left) c.seated-seats.ensures (
+      all.left,
+      λ i d low.
+          let one = all.each i d tt low in
+          subst (λ (old : Option Crew). CameBack g.A.Accept.over old (slice_index_or left i d)) one.argument_is
+          (subst (λ (new : Option Crew). CameBack g.A.Accept.over one.argument.now new) one.left one.call.1.1),
     )
 
 pub left_of-requires-clause-some : goal.left_of-requires-clause-some
@@ -73,3 +86,9 @@ returns-clause-served g c =
     let Has = HasServedClients g.R.Source.state g.W.Sink.state g.A.Accept.gave c.args.registry.now in
     pairwise_of Has (λ old new. Has (Some old) (Some new)) (λ old new here. here) c.args.crews.items c.left_of.result.items
     (subst (λ (seats : List (Option Crew)). EachSeat Has (map Some c.args.crews.items) seats) (sym c.left_of.ensures) (served_clients g c'))
+
+pub returns-clause-over : goal.returns-clause-over
+returns-clause-over g c =
+    let c' = (goal.at.returns-clause-over g c).In-Ok in
+    all_of (CameBack g.A.Accept.over) g.A.Accept.over (λ old new here. here) c.args.crews.items c.left_of.result.items
+    (subst (λ (seats : List (Option Crew)). EachSeat (CameBack g.A.Accept.over) (map Some c.args.crews.items) seats) (sym c.left_of.ensures) (over g c'))
