@@ -190,7 +190,7 @@ def is_in_gate(block: Block, _: Tools) -> None:
 
 def is_run_by_gate(block: Block, _: Tools) -> None:
     """A run of the crate's program: what it prints is what the gate wants of it."""
-    agree(block.text, "$ rt run\n" + (ROOT / block.page).with_name("stdout").read_text(encoding="utf-8"))
+    agree("$ rt run\n" + (ROOT / block.page).with_name("stdout").read_text(encoding="utf-8"), block.text)
 
 
 def without_mending(text: str) -> Iterator[str]:
@@ -244,7 +244,7 @@ def refused_text(block: Block, tools: Tools) -> None:
 def script(block: Block, tools: Tools) -> None:
     """A script of the Redis port, which adds up numbers."""
     with resp.started(tools.mapd) as server, resp.Client(server.address) as client:
-        same("its replies", [client.ask("EVAL", block.text, 1, "key", number) for number in (2, 3)], [b":2\r\n", b":5\r\n"])
+        same("what it replies", [client.ask("EVAL", block.text, 1, "key", number) for number in (2, 3)], [b":2\r\n", b":5\r\n"])
 
 
 def report(block: Block, tools: Tools) -> None:
