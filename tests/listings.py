@@ -28,7 +28,7 @@ sys.dont_write_bytecode = True
 import pages  # noqa: E402
 import wire  # noqa: E402
 from listings_played import PLAYED, Block, Missing, Play, Tools  # noqa: E402
-from pages import FENCE, HEADING, LIST_ITEM, ROOT, Page  # noqa: E402
+from pages import HEADING, ROOT, Page, kinds_of  # noqa: E402
 from wire import Wrong  # noqa: E402
 
 # What may go wrong with a block. Python's own faults come of pages that read otherwise than before.
@@ -61,18 +61,6 @@ CLAIMED: list[tuple[str, str, str]] = [
     ("docs/SHARDING.md", "import hashlib", "tests/redis_client.py"),
     ("examples/clients/README.md", "```text 3", PYTHON_PAGES),
 ]
-
-
-def kinds_of(lines: list[str]) -> Iterator[str]:
-    """What each line is: `fence`, `fenced`, `indented`, or nothing of these."""
-    fenced = in_list = False
-    for line in lines:
-        if FENCE.match(line):
-            fenced = not fenced
-            yield "fence"
-            continue
-        in_list = not fenced and (bool(LIST_ITEM.match(line)) or (in_list and (not line or line.startswith(" "))))
-        yield "fenced" if fenced else "indented" if line.startswith("    ") and not in_list else ""
 
 
 def spans_of(lines: list[str]) -> Iterator[tuple[int, int, int]]:
@@ -177,7 +165,7 @@ def play_all(blocks: list[Block], bpfmap: Path, mapd: Path) -> Iterator[str]:
             else:
                 yield f"{block.page}:{block.line}: {failure}"
     for tool, count in missing.items():
-        print(f"listings: no {tool} here, so {count} blocks were not run")
+        print(f"listings: no {tool} here; blocks that were not run for that: {count}")
 
 
 def main() -> int:

@@ -62,18 +62,24 @@ class Page(NamedTuple):
         return len(self.text.split())
 
 
-def lines_outside_blocks(text: str) -> list[str]:
-    """The lines of a text, with an empty one for each line of a block of code, fenced or indented by four."""
-    lines, fenced, in_list = [], False, False
-    for line in text.splitlines():
+def kinds_of(lines: list[str]) -> Iterator[str]:
+    """What each line is: `fence`, `fenced`, `indented` by four outside lists, or nothing of these."""
+    fenced = in_list = False
+    for line in lines:
         if FENCE.match(line):
-            fenced = not fenced
-            lines.append("")
-            continue
-        in_list = bool(LIST_ITEM.match(line)) or (in_list and (not line or line.startswith(" ")))
-        is_block = fenced or (line.startswith("    ") and not in_list)
-        lines.append("" if is_block else line)
-    return lines
+            fenced, in_list = not fenced, in_list and line.startswith(" ")
+            yield "fence"
+        elif fenced:
+            yield "fenced"
+        else:
+            in_list = bool(LIST_ITEM.match(line)) or (in_list and (not line or line.startswith(" ")))
+            yield "indented" if line.startswith("    ") and not in_list else ""
+
+
+def lines_outside_blocks(text: str) -> list[str]:
+    """The lines of a text, with an empty one for each line of a block of code."""
+    lines = text.splitlines()
+    return ["" if kind else line for line, kind in zip(lines, kinds_of(lines))]
 
 
 def pages() -> Iterator[Page]:
