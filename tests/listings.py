@@ -96,12 +96,13 @@ def blocks_of(page: Page) -> list[Block]:
 
 def is_meant(block: Block, which: str) -> bool:
     """Whether these words mean the block: ```sh by its kind, ```sh 3 if there are three of them, ### NAME by how the heading above it
-    begins, and else by its first line."""
+    begins, and else by its first line, which may go on if two dots end the words."""
     if which.startswith("```"):
         return which[3:].split()[0] == block.kind
     if which.startswith("### "):
         return block.heading.startswith(which)
-    return block.text.partition("\n")[0] == which
+    line = block.text.partition("\n")[0]
+    return line.startswith(which[:-2]) if which.endswith("..") else line == which
 
 
 def tests_of(block: Block) -> list[str]:
