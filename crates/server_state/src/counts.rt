@@ -225,7 +225,7 @@ impl WorkerCounts {
         }
     }
 
-    /// So many bytes are kept for a client now, and so many were before. A client that comes had none, and one that leaves has none.
+    /// This many bytes are kept for a client now, in place of those before. A client that comes had none, and one that leaves has none.
     #[inline(always)]
     pub fn count_kept(&self, before: u64, now: u64) {
         if now != before {
