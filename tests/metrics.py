@@ -6,6 +6,7 @@ By hand, after `rt run` in crates/mapd: python3 tests/metrics.py. --only names a
 from __future__ import annotations
 
 import contextlib
+import json
 import random
 import re
 import shutil
@@ -27,13 +28,15 @@ import wire  # noqa: E402
 from wire import Wrong, same  # noqa: E402
 
 GAUGES = {"mapd_entries", "mapd_resident_bytes", "mapd_uptime_seconds", "mapd_clients", "mapd_last_save_seconds", "mapd_save_failing",
-          "mapd_longest_wait_microseconds"}
+          "mapd_longest_wait_microseconds", "mapd_longest_hold_microseconds", "mapd_bytes"}
 COUNTERS = {f"mapd_{name}_total" for name in
             ("clients_came", "clients_refused", "commands", "requests", "walks", "refusals", "expired", "hits", "misses", "stripe_waits")}
 # What changes by itself.
-PASSING = {"mapd_resident_bytes", "mapd_uptime_seconds", "mapd_stripe_waits_total", "mapd_longest_wait_microseconds"}
+PASSING = {"mapd_resident_bytes", "mapd_uptime_seconds", "mapd_stripe_waits_total", "mapd_longest_wait_microseconds",
+           "mapd_longest_hold_microseconds", "mapd_bytes"}
 # Those that come in several lines, each with a label of this key.
-LABELS = {"mapd_commands_total": "command", "mapd_requests_total": "request", "mapd_refusals_total": "number"}
+LABELS = {"mapd_commands_total": "command", "mapd_requests_total": "request", "mapd_refusals_total": "number", "mapd_bytes": "kind"}
+DASHBOARD = Path(__file__).resolve().parent.parent / "docs" / "dashboard.json"
 TYPE = "text/plain; version=0.0.4; charset=utf-8"
 HEAD_BYTES = 4096
 # How long a reader may take, and what comes on top of that at most.
@@ -138,7 +141,7 @@ def growth(address: str, calls: Callable[[], None], read: Read = told) -> dict[s
     calls()
     after = read(address)
     more = {name: number - before.get(name, 0) for name, number in after.items()}
-    return {name: number for name, number in more.items() if number and name not in PASSING}
+    return {name: number for name, number in more.items() if number and name.split("{")[0] not in PASSING}
 
 
 def by_label(address: str, name: str, calls: Callable[[], None]) -> dict[str, int]:
@@ -371,6 +374,63 @@ def waits_are_counted(program: Path) -> None:
         same("the longest wait", 0 < found["mapd_longest_wait_microseconds"] < 10_000_000, True)
 
 
+def bytes_of(address: str) -> dict[str, int]:
+    """The numbers of bytes, by their kinds."""
+    return {series.split('"')[1]: number for series, number in labelled(address).items() if series.startswith("mapd_bytes{")}
+
+
+def more_bytes(address: str, calls: Callable[[], None]) -> dict[str, int]:
+    """How many bytes of each kind come by these calls."""
+    before = bytes_of(address)
+    calls()
+    return {kind: number - before[kind] for kind, number in bytes_of(address).items()}
+
+
+def bytes_by_kind(program: Path) -> None:
+    """Rows grow with entries, the index with keys and deadlines, programs with Registers, and sessions with clients and what they have sent in part."""
+    many, value, sizes = 1000, bytes(1000), (64, 1024, 8, 8)
+    units = bytes.fromhex("b705000001000000") * 4000 + bytes.fromhex("b700000008000000 9500000000000000")
+    with started(program, "--workers", "2") as ports:
+        same("the kinds", sorted(bytes_of(ports.metrics)), ["index", "programs", "rows", "sessions"])
+        same("what is kept for nobody", [bytes_of(ports.metrics)[kind] for kind in ("programs", "sessions")], [0, 0])
+        with wire.opened(ports.frames) as client, redis_wire.Client(ports.commands) as other:
+            other.ask("PING")
+            kept = bytes_of(ports.metrics)["sessions"]
+            same("what is kept for two clients", 1600 <= kept < 100_000, True)
+            more = more_bytes(ports.metrics, lambda: [client.ask(wire.put(b"%d" % number, value)) for number in range(many)])
+            same("entries", (more["rows"] >= many * len(value), more["rows"] < 2 * many * len(value), 8 * many < more["index"] < 100 * many), (True, True, True))
+            more = more_bytes(ports.metrics, lambda: [other.ask("EXPIRE", b"%d" % number, "3600") for number in range(many)])
+            same("deadlines", (more["rows"], 100 * many < more["index"] < 1000 * many), (0, True))
+            more = more_bytes(ports.metrics, lambda: [client.ask(wire.register(sizes, units)) for _ in range(3)])
+            same("one program, sent three times", more["programs"], 32 * 4002)
+            for one, part in ((client, wire.frame(wire.put(b"a", value))[:-1]), (other, b"*2\r\n$3\r\nGET\r\n$900\r\n" + bytes(800))):
+                more = more_bytes(ports.metrics, lambda: begin(ports.metrics, one, part))
+                same("a request in part", len(part) <= more["sessions"] < 10 * len(part), True)
+            same("KEYS", len(redis_wire.members_of(other_walk(ports))), many)
+            same("the longest hold", 0 < told(ports.metrics)["mapd_longest_hold_microseconds"] < 10_000_000, True)
+        until = time.monotonic() + wire.PATIENCE
+        while bytes_of(ports.metrics)["sessions"] and time.monotonic() < until:
+            time.sleep(0.05)
+        same("what is kept when all have left", bytes_of(ports.metrics)["sessions"], 0)
+        panels = json.loads(DASHBOARD.read_text())["panels"]
+        asked = {name for panel in panels for target in panel["targets"] for name in re.findall(r"mapd_\w+", target["expr"])}
+        same("what the dashboard asks for and nobody tells", asked - set(told(ports.metrics)), set())
+
+
+def other_walk(ports: Ports) -> bytes:
+    """What a walk over all keys finds."""
+    with redis_wire.Client(ports.commands) as client:
+        return client.ask("KEYS", "*")
+
+
+def begin(metrics: str, client: wire.Client | redis_wire.Client, part: bytes) -> None:
+    """Sends a part of a request, and waits until it is kept."""
+    before, until = bytes_of(metrics)["sessions"], time.monotonic() + wire.PATIENCE
+    client.socket.sendall(part)
+    while bytes_of(metrics)["sessions"] == before and time.monotonic() < until:
+        time.sleep(0.01)
+
+
 def the_server_goes_on(program: Path) -> None:
     """Random bytes and many readers at once; and a server ends in time while a reader hangs."""
     chance = random.Random(7)
@@ -413,7 +473,7 @@ def prometheus_reads_it(program: Path) -> None:
 
 
 PARTS = [pages_and_heads, pieces_and_ends, readers_that_hang, numbers_after_calls, kinds_of_requests, kinds_of_commands,
-         numbers_of_saves_and_memory, waits_are_counted, the_server_goes_on, ports_and_passes, prometheus_reads_it]
+         numbers_of_saves_and_memory, waits_are_counted, bytes_by_kind, the_server_goes_on, ports_and_passes, prometheus_reads_it]
 
 
 if __name__ == "__main__":

@@ -277,6 +277,17 @@ def slow_commands_are_shown(program: Path) -> None:
             same("what another worker shows", [slow.address for slow in slow_of(ours, 2)], [own_address(client).encode() for client in (third, second)])
     rings_and_cuts(program)
     quick_and_secret(program)
+    settings_are_told(program)
+
+
+def settings_are_told(program: Path) -> None:
+    """CONFIG GET tells from when on commands are kept, and how many, as redis-server does."""
+    names = ["slowlog-log-slower-than", "SlowLog-Max-Len", "none"]
+    for options, least in (((), b"-1"), (("--slowlog-microseconds", "0"), b"0"), (("--slowlog-microseconds", "65535"), b"65535")):
+        with started(program, *options) as server, Client(server.address) as client:
+            told = [resp.text_of(member) for member in resp.members_of(client.ask("CONFIG", "GET", *names))]
+            same("the settings", told, [b"slowlog-log-slower-than", least, b"slowlog-max-len", b"128"])
+            same("one of them", client.ask("CONFIG", "GET", names[0]), resp.array(resp.value(names[0].encode()), resp.value(least)))
 
 
 def rings_and_cuts(program: Path) -> None:

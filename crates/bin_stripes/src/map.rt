@@ -14,6 +14,7 @@ use crate::ghost_action::GhostAction;
 use crate::held::{
     CallAt, Replacer, make_call, make_copies, make_count, make_expiry, make_replacements, make_scan,
 };
+use crate::holds::{Holds, now_micros};
 use crate::pass::Pass;
 use crate::rule::{Shape, Striping};
 use crate::seats::{try_call, try_replace, try_scan};
@@ -47,6 +48,7 @@ pub struct StripedMap {
         Global,
     >,
     pub(crate) turns: Turns,
+    pub(crate) holds: Holds,
 }
 
 impl Model for StripedMap {
@@ -83,6 +85,13 @@ impl StripedMap {
     /// are over, of all passes and calls. Takes no memory. Never waits.
     pub fn waits(&self) -> Waits {
         self.turns.waits()
+    }
+
+    /// Returns how long a stripe was held at the longest since the map was opened, in microseconds, by a scan, a copy, a count, a
+    /// replacement, a save or a look for an entry whose time is over, each of them over by now. Calls are not timed, nor what has
+    /// `try_` in its name. Takes no memory. Never waits.
+    pub fn longest_hold_micros(&self) -> u64 {
+        self.holds.longest_micros()
     }
 
     /// The stripe of the call's key.
@@ -228,7 +237,9 @@ impl StripedMap {
         let table = &self.table.shared;
         let mut seat = pass.known.take();
         take_stripe(rt, table, &mut seat, slot, &self.turns);
+        let begun = now_micros();
         let expiry = make_expiry(table, &mut seat, slot, now);
+        self.holds.ended(begun);
         pass.known.put(seat);
         plain(&expiry)
     }
@@ -254,7 +265,9 @@ impl StripedMap {
         let table = &self.table.shared;
         let mut seat = pass.known.take();
         take_stripe(rt, table, &mut seat, slot, &self.turns);
+        let begun = now_micros();
         let answer = make_scan(alloc, table, &mut seat, slot);
+        self.holds.ended(begun);
         pass.known.put(seat);
         answer
     }
@@ -279,7 +292,9 @@ impl StripedMap {
         let table = &self.table.shared;
         let mut seat = pass.known.take();
         take_stripe(rt, table, &mut seat, slot, &self.turns);
+        let begun = now_micros();
         let answer = make_copies(table, &mut seat, slot, list);
+        self.holds.ended(begun);
         pass.known.put(seat);
         answer
     }
@@ -318,7 +333,9 @@ impl StripedMap {
         let table = &self.table.shared;
         let mut seat = pass.known.take();
         take_stripe(rt, table, &mut seat, slot, &self.turns);
+        let begun = now_micros();
         let count = make_count(table, &mut seat, slot);
+        self.holds.ended(begun);
         pass.known.put(seat);
         count
     }
@@ -346,6 +363,7 @@ impl StripedMap {
         let table = &self.table.shared;
         let mut seat = pass.known.take();
         take_stripe(rt, table, &mut seat, slot, &self.turns);
+        let begun = now_micros();
         let counts = make_replacements(
             table,
             &mut seat,
@@ -354,6 +372,7 @@ impl StripedMap {
             gate,
             worker,
         );
+        self.holds.ended(begun);
         pass.known.put(seat);
         counts
     }

@@ -7,6 +7,7 @@ ghost use Rattle.bin_stripes.specs.Holding.{IsLaid, IsEmptyBins};
 ghost use Rattle.bin_stripes.specs.Opened.{IsPassCount, IsOpened, pass_of};
 
 use crate::fault::OpenFault;
+use crate::holds::Holds;
 use crate::map::{StripeBins, StripedMap};
 use crate::pass::Pass;
 use crate::rule::{Deal, Shape};
@@ -116,8 +117,12 @@ fn opened(
         return Err(NoMemory);
     };
     let all = dealt(alloc, &table.shared, seat, passes)?;
-    let turns = Turns::new();
-    Ok((StripedMap { table, turns }, all))
+    let map = StripedMap {
+        table,
+        turns: Turns::new(),
+        holds: Holds::none(),
+    };
+    Ok((map, all))
 }
 
 /// Makes the words and the bins of the stripes of a new map.

@@ -10,6 +10,7 @@ ghost use Rattle.bin_stripes.specs.Releasing.{Lets};
 ghost use Rattle.bin_stripes.specs.Saves.{SavesStripe};
 
 use crate::held::Nothing;
+use crate::holds::now_micros;
 use crate::map::StripedMap;
 use crate::pass::Pass;
 use crate::steps::{PassSeat, Shows, Stripes, let_go, take_stripe};
@@ -52,7 +53,9 @@ impl StripedMap {
         let table = &self.table.shared;
         let mut seat = pass.known.take();
         take_stripe(rt, table, &mut seat, slot, &self.turns);
+        let begun = now_micros();
         let answer = make_save(table, &mut seat, slot, how, changes);
+        self.holds.ended(begun);
         pass.known.put(seat);
         answer
     }

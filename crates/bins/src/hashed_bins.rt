@@ -10,6 +10,7 @@ use crate::entry_list::EntryList;
 use crate::finder::{Finder, remembered};
 use crate::hashes::HashedKey;
 use crate::mixing::Seed;
+use crate::occupied::{Occupied, Occupies};
 use crate::opening::Opening;
 use crate::replacement::replace_rows;
 use crate::rows::Rows;
@@ -151,6 +152,15 @@ impl HashedBins {
                 Ok(())
             }
             None => self.add(key, value),
+        }
+    }
+}
+
+impl Occupies for HashedBins {
+    fn occupied(&self) -> Occupied {
+        Occupied {
+            rows: self.rows.bytes() as u64,
+            index: self.finder.bytes(&self.rows) as u64,
         }
     }
 }

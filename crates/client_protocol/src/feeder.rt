@@ -238,6 +238,11 @@ impl Feeder {
         self.hello
     }
 
+    /// Returns how many bytes there is room for, for the beginning of a frame.
+    pub fn bytes(&self) -> usize {
+        self.rest.capacity()
+    }
+
     /// Tests whether the stream so far ends inside a frame.
     pub fn is_inside(&self) -> bool
         ensures { result ≡ is_inside self.now }

@@ -110,6 +110,7 @@ impl<'a, 'r, C: Channel + Drop> Attendant<'a, 'r, C> {
         };
         let talk = Talk::new(self.alloc, self.next_number(), self.password, protocol);
         let client = Client::new(self.alloc, self.came, tokens, channel, talk);
+        self.room.counts.count_kept(0, client.bytes());
         let _ = self.seats.insert_reserved(client);
         self.came = came;
     }
@@ -134,6 +135,7 @@ impl<'a, 'r, C: Channel + Drop> Attendant<'a, 'r, C> {
             → IsAttended C.state P.gave registry old turns (known self.new.room.serving) self.new.came self.new.seats }
     {
         if client.has_left() {
+            self.room.counts.count_kept(client.bytes(), 0);
             client.part(clients, self.room.serving.pass(), seat);
             return;
         }
@@ -163,7 +165,9 @@ impl<'a, 'r, C: Channel + Drop> Attendant<'a, 'r, C> {
         let Some(mut client) = self.seats.try_remove(seat) else {
             return;
         };
+        let before = client.bytes();
         let standing = client.turn(worker, &mut self.room, clients);
+        self.room.counts.count_kept(before, client.bytes());
         self.go_on(clients, seat, client, standing);
     }
 
@@ -182,11 +186,14 @@ impl<'a, 'r, C: Channel + Drop> Attendant<'a, 'r, C> {
         let Some(mut client) = self.seats.try_remove(seat) else {
             return;
         };
+        let before = client.bytes();
         if client.leaving.is_some() {
+            self.room.counts.count_kept(before, 0);
             client.part(clients, self.room.serving.pass(), seat);
             return;
         }
         client.let_go(self.alloc);
+        self.room.counts.count_kept(before, client.bytes());
         self.go_on(clients, seat, client, Standing::Waits);
     }
 
@@ -207,6 +214,7 @@ impl<'a, 'r, C: Channel + Drop> Attendant<'a, 'r, C> {
         let Some(client) = self.seats.try_remove(seat) else {
             return;
         };
+        self.room.counts.count_kept(client.bytes(), 0);
         client.part(clients, self.room.serving.pass(), seat);
     }
 

@@ -33,6 +33,14 @@ impl<'a> Talk<'a> {
         }
     }
 
+    /// Returns how many bytes there is room for, for what was read of a frame or a command.
+    pub fn bytes(&self) -> usize {
+        match self {
+            Talk::Frames(feeder) => feeder.bytes(),
+            Talk::Commands(talk) => talk.bytes(),
+        }
+    }
+
     /// Tests whether the bytes so far end inside a frame or a command.
     pub fn is_inside(&self) -> bool
         ensures inside { result ≡ true → IsOpen self.now → IsInside self.now }

@@ -60,6 +60,13 @@ impl<'a> Tokens<'a> {
         Tokens { registry, items }
     }
 
+    /// Returns how many bytes the tokens take that there is room for.
+    pub(crate) fn bytes(&self) -> usize {
+        self.items
+            .capacity()
+            .saturating_mul(size_of::<ProgramToken>())
+    }
+
     /// The tokens alone, which outlast the reference to their registry. Takes no memory.
     pub fn into_vec(self) -> Vec<ProgramToken>
         ensures items { result.items ≡ self.entry.items }

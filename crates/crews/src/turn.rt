@@ -26,6 +26,9 @@ use std::thread::Threads;
 /// The most bytes that are owed to a client that is read on.
 const OWED_BYTES: usize = 65536;
 
+/// What each client takes in the worker's seats and in the list of clients, about.
+const CLIENT_BYTES: usize = 800;
+
 /// A client between its turns: its number among the worker's clients, its connection, how it speaks and what of that was read, the
 /// tokens of its programs, what it is owed, and how it is leaving, if it is.
 #[derive(Drop)]
@@ -96,6 +99,13 @@ impl<'a, C: Channel> Client<'a, C> {
             owed: Owed::new(alloc),
             leaving: None,
         }
+    }
+
+    /// Returns how many bytes are kept for the client, about: for what was read of it, for its tokens, and what it is owed.
+    pub fn bytes(&self) -> u64 {
+        let kept = self.talk.bytes().saturating_add(self.tokens.bytes());
+        let owed = self.owed.len().saturating_add(CLIENT_BYTES);
+        kept.saturating_add(owed) as u64
     }
 
     /// Answers what is whole in a piece of this number of bytes, and owes the answers.

@@ -7,6 +7,7 @@ use crate::sockets::hear_out;
 use crate::wall_clock::WallClock;
 use arrayvec::ArrayVec;
 use bin_stripes::{Pass, StripedMap};
+use bins::Occupied;
 use crews::request_name;
 use itoa::Buffer;
 use key_walks::count_all;
@@ -15,6 +16,7 @@ use metrics_page::{
     answer, asked_by,
 };
 use mio::net::TcpListener as Watched;
+use program_registry::Registry;
 use redis_service::{COMMAND_KINDS, command_text};
 use server_state::{MOST_KINDS, ServerState, resident_bytes};
 use std::io::{ErrorKind, Read, Write};
@@ -142,11 +144,17 @@ pub(crate) struct Watcher<'a, H: Wait + Clock> {
     clock: WallClock<'a, H>,
     state: &'a ServerState,
     map: &'a StripedMap,
+    registry: &'a Registry,
 }
 
 impl<'a, H: Wait + Clock> Watcher<'a, H> {
-    /// The numbers are those of this server and its map.
-    pub(crate) fn new(rt: &'a H, state: &'a ServerState, map: &'a StripedMap) -> Watcher<'a, H>
+    /// The numbers are those of this server, its map and its programs.
+    pub(crate) fn new(
+        rt: &'a H,
+        state: &'a ServerState,
+        map: &'a StripedMap,
+        registry: &'a Registry,
+    ) -> Watcher<'a, H>
         ensures { result.map.now ≡ map.now }
     {
         Watcher {
@@ -154,7 +162,21 @@ impl<'a, H: Wait + Clock> Watcher<'a, H> {
             clock: WallClock::new(rt),
             state,
             map,
+            registry,
         }
+    }
+
+    /// The bytes that all stripes take, one after the other.
+    fn occupied(&self, pass: &mut Pass) -> Occupied
+        requires { pass.old.map ≡ self.now.map.now }
+        ensures { pass.new.map ≡ self.now.map.now }
+    {
+        let mut all = Occupied::default();
+        let stripes = self.map.stripes();
+        for stripe in 0..stripes {
+            all = all.plus(self.map.occupied(self.rt, pass, stripe));
+        }
+        all
     }
 
     /// The server's numbers, as they are now.
@@ -163,6 +185,7 @@ impl<'a, H: Wait + Clock> Watcher<'a, H> {
         ensures { pass.new.map ≡ self.now.map.now }
     {
         let entries = count_all(self.rt, self.map, pass);
+        let occupied = self.occupied(pass);
         let state = self.state;
         let counts = state.counts();
         let waits = self.map.waits();
@@ -183,6 +206,11 @@ impl<'a, H: Wait + Clock> Watcher<'a, H> {
             is_save_failing: state.is_failing(),
             stripe_waits: waits.times,
             longest_wait_micros: waits.longest_micros,
+            longest_hold_micros: self.map.longest_hold_micros(),
+            row_bytes: occupied.rows,
+            index_bytes: occupied.index,
+            program_bytes: self.registry.bytes(),
+            session_bytes: counts.session_bytes,
             uptime_seconds: self.clock.look().saturating_sub(state.began()) / 1000,
         }
     }

@@ -224,10 +224,11 @@ fn attend_and_watch<'a, 'r, H: Threads + Wait + Clock + Sync, E: Sink + Send>(
 {
     let bell = Bell::new();
     let bell = &bell;
-    let (rt, state, map) = (worker.rt, entrance.state, shared.map);
+    let (rt, state) = (worker.rt, entrance.state);
+    let (map, registry) = (shared.map, shared.registry);
     let watching = move ||
         requires { watch.pass.map ≡ map.now }
-    { Watcher::new(rt, state, map).watch(watch, bell) };
+    { Watcher::new(rt, state, map, registry).watch(watch, bell) };
     // For the proof: a closure that moves its captures on can't be known by what it ensures, so it takes them out of this.
     let mut given = Some((posts, kept));
     let serving = move || -> (Result<Vec<Attended>, NoMemory>, bool)

@@ -16,18 +16,22 @@ unfoldable pub metric : Kind → List ℕ → List ℕ → ℕ → List ℕ
 metric kind name help number =
     codes "# HELP " ++ name ++ codes " " ++ help ++ codes "\n# TYPE " ++ name ++ kind_text kind ++ name ++ codes " " ++ decimal number ++ codes "\n"
 
--- two lines: what numbers that count up mean, and their kind
-unfoldable pub about : List ℕ → List ℕ → List ℕ
-about name help = codes "# HELP " ++ name ++ codes " " ++ help ++ codes "\n# TYPE " ++ name ++ codes " counter\n"
+-- two lines: what numbers of a name mean, and their kind
+unfoldable pub about : Kind → List ℕ → List ℕ → List ℕ
+about kind name help = codes "# HELP " ++ name ++ codes " " ++ help ++ codes "\n# TYPE " ++ name ++ kind_text kind
 
--- the line of one of several numbers, whose label is one of this key
-unfoldable pub series_line : List ℕ → List ℕ → Labelled → List ℕ
-series_line name key one =
-    name ++ codes "{" ++ key ++ codes "=\"" ++ one.label.items ++ codes "\"} " ++ decimal one.number ++ codes "\n"
+-- the line of one of several numbers of a name, with its label of this key
+unfoldable pub series_line : List ℕ → List ℕ → List ℕ → ℕ → List ℕ
+series_line name key label number =
+    name ++ codes "{" ++ key ++ codes "=\"" ++ label ++ codes "\"} " ++ decimal number ++ codes "\n"
 
--- several numbers of a name
+-- the lines of several numbers of a name
+abbrev pub series_lines : List ℕ → List ℕ → List Labelled → List ℕ
+series_lines name key all = flat_map (λ one. series_line name key one.label.items one.number) all
+
+-- several numbers of a name that count up
 abbrev pub series : List ℕ → List ℕ → List ℕ → List Labelled → List ℕ
-series name help key all = about name help ++ flat_map (series_line name key) all
+series name help key all = about Counter name help ++ series_lines name key all
 
 -- the map and the process
 abbrev pub process : Numbers → List ℕ
@@ -70,12 +74,21 @@ abbrev pub waits : Numbers → List ℕ
 waits numbers =
     metric Counter (codes "mapd_stripe_waits_total") (codes "Calls that waited for a stripe which another held.") numbers.stripe_waits
     ++ metric Gauge (codes "mapd_longest_wait_microseconds") (codes "The longest that a call waited for a stripe, at least.") numbers.longest_wait_micros
+    ++ metric Gauge (codes "mapd_longest_hold_microseconds") (codes "The longest that a walk, a save or a sweep held a stripe.") numbers.longest_hold_micros
+
+abbrev pub bytes : Numbers → List ℕ
+bytes numbers =
+    about Gauge (codes "mapd_bytes") (codes "Memory by what it is for.")
+    ++ series_line (codes "mapd_bytes") (codes "kind") (codes "rows") numbers.row_bytes
+    ++ series_line (codes "mapd_bytes") (codes "kind") (codes "index") numbers.index_bytes
+    ++ series_line (codes "mapd_bytes") (codes "kind") (codes "programs") numbers.program_bytes
+    ++ series_line (codes "mapd_bytes") (codes "kind") (codes "sessions") numbers.session_bytes
 
 -- the page
 unfoldable pub text : Numbers → List ℕ
 text numbers =
     process numbers ++ clients numbers ++ commands numbers ++ requests numbers ++ refusals numbers ++ keys numbers ++ saves numbers
-    ++ waits numbers
+    ++ waits numbers ++ bytes numbers
 
 -- the head of the page's answer, by the length of the page
 abbrev pub page_head : ℕ → List ℕ

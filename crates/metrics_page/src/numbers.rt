@@ -61,6 +61,16 @@ pub struct Numbers {
     pub stripe_waits: u64,
     /// The longest that one waited, in microseconds; it may be longer.
     pub longest_wait_micros: u64,
+    /// The longest that a walk, a save or a sweep held a stripe, in microseconds.
+    pub longest_hold_micros: u64,
+    /// The bytes of keys and values.
+    pub row_bytes: u64,
+    /// The bytes of what is kept beside keys and values.
+    pub index_bytes: u64,
+    /// The bytes of registered programs.
+    pub program_bytes: u64,
+    /// The bytes that are kept for clients.
+    pub session_bytes: u64,
     /// How long the server has run, in seconds.
     pub uptime_seconds: u64,
 }

@@ -1,11 +1,11 @@
 //! The numbers as Prometheus reads them.
-ghost use Rattle.std.specs.Prelude.{◌≡◌, ◌+◌, ◌*◌, ◌≤◌, ◌++◌, length, flat_map, if◌then◌else◌};
+ghost use Rattle.std.specs.Prelude.{◌≡◌, ◌+◌, ◌*◌, ◌≤◌, ◌++◌, length, if◌then◌else◌};
 ghost use Rattle.arrayvec.specs.ArrayVec.{array_vec_len};
 ghost use Rattle.metrics_page.specs.Pages as spec;
-ghost use Rattle.metrics_page.specs.Pages.{about, kind_text, metric, series, series_line, text};
+ghost use Rattle.metrics_page.specs.Pages.{about, kind_text, metric, series, series_line, series_lines, text};
 
 use crate::buffer::append;
-use crate::numbers::{Labelled, MOST_COMMANDS, MOST_REFUSALS, MOST_REQUESTS, Numbers};
+use crate::numbers::{LABEL_BYTES, Labelled, MOST_COMMANDS, MOST_REFUSALS, MOST_REQUESTS, Numbers};
 use arrayvec::ArrayVec;
 use itoa::Buffer;
 
@@ -15,11 +15,14 @@ pub(crate) const METRIC_BYTES: usize = 288;
 /// The bytes that the line of a number with a label takes at most.
 const LABELLED_BYTES: usize = 104;
 
+/// Bytes are told apart by this many kinds.
+const BYTE_KINDS: usize = 4;
+
 /// The numbers with labels are at most this many.
-const MOST_LABELLED: usize = MOST_COMMANDS + MOST_REQUESTS + MOST_REFUSALS;
+const MOST_LABELLED: usize = MOST_COMMANDS + MOST_REQUESTS + MOST_REFUSALS + BYTE_KINDS;
 
 /// The room for the lines of all numbers.
-pub(crate) const TEXT_BYTES: usize = 18 * METRIC_BYTES + MOST_LABELLED * LABELLED_BYTES;
+pub(crate) const TEXT_BYTES: usize = 20 * METRIC_BYTES + MOST_LABELLED * LABELLED_BYTES;
 
 /// The lines of the numbers.
 pub(crate) type Text = ArrayVec<u8, TEXT_BYTES>;
@@ -127,11 +130,11 @@ fn put_clients(text: &mut Text, numbers: &Numbers)
 }
 
 /// Appends what numbers of this name mean, and their kind.
-fn put_about(text: &mut Text, name: &str, help: &str)
+fn put_about(text: &mut Text, kind: Kind, name: &str, help: &str)
     requires room { array_vec_len text.old + METRIC_BYTES ≤ TEXT_BYTES }
     requires name { length name.now ≤ 32 }
     requires help { length help.now ≤ 96 }
-    ensures items { text.new.items ≡ text.old.items ++ about name.now help.now }
+    ensures items { text.new.items ≡ text.old.items ++ about kind name.now help.now }
     ensures len { array_vec_len text.new ≤ array_vec_len text.old + METRIC_BYTES }
 {
     append(text, b"# HELP ");
@@ -140,15 +143,16 @@ fn put_about(text: &mut Text, name: &str, help: &str)
     append(text, help.as_bytes());
     append(text, b"\n# TYPE ");
     append(text, name.as_bytes());
-    append(text, b" counter\n");
+    append(text, kind.text().as_bytes());
 }
 
-/// Appends the line of one number, whose label is one of this key.
-fn put_labelled(text: &mut Text, name: &str, key: &str, one: &Labelled)
+/// Appends the line of one number, with its label of this key.
+fn put_labelled(text: &mut Text, name: &str, key: &str, label: &[u8], number: u64)
     requires room { array_vec_len text.old + LABELLED_BYTES ≤ TEXT_BYTES }
     requires name { length name.now ≤ 32 }
     requires key { length key.now ≤ 16 }
-    ensures items { text.new.items ≡ text.old.items ++ series_line name.now key.now one.now }
+    requires label { length label.now ≤ LABEL_BYTES }
+    ensures items { text.new.items ≡ text.old.items ++ series_line name.now key.now label.now number }
     ensures len { array_vec_len text.new ≤ array_vec_len text.old + LABELLED_BYTES }
 {
     let mut digits = Buffer::new();
@@ -156,9 +160,9 @@ fn put_labelled(text: &mut Text, name: &str, key: &str, one: &Labelled)
     append(text, b"{");
     append(text, key.as_bytes());
     append(text, b"=\"");
-    append(text, one.label.as_slice());
+    append(text, label);
     append(text, b"\"} ");
-    append(text, digits.format(one.number).as_bytes());
+    append(text, digits.format(number).as_bytes());
     append(text, b"\n");
 }
 
@@ -167,11 +171,11 @@ fn put_each(text: &mut Text, name: &str, key: &str, all: &[Labelled])
     requires room { array_vec_len text.old + length all.now * LABELLED_BYTES ≤ TEXT_BYTES }
     requires name { length name.now ≤ 32 }
     requires key { length key.now ≤ 16 }
-    ensures items { text.new.items ≡ text.old.items ++ flat_map (series_line name.now key.now) all.now }
+    ensures items { text.new.items ≡ text.old.items ++ series_lines name.now key.now all.now }
     ensures len { array_vec_len text.new ≤ array_vec_len text.old + length all.now * LABELLED_BYTES }
 {
     for one in all {
-        put_labelled(text, name, key, one);
+        put_labelled(text, name, key, one.label.as_slice(), one.number);
     }
 }
 
@@ -184,7 +188,7 @@ fn put_series(text: &mut Text, name: &str, help: &str, key: &str, all: &[Labelle
     ensures items { text.new.items ≡ text.old.items ++ series name.now help.now key.now all.now }
     ensures len { array_vec_len text.new ≤ array_vec_len text.old + METRIC_BYTES + length all.now * LABELLED_BYTES }
 {
-    put_about(text, name, help);
+    put_about(text, Kind::Counter, name, help);
     put_each(text, name, key, all);
 }
 
@@ -298,11 +302,11 @@ fn put_saves(text: &mut Text, numbers: &Numbers)
     );
 }
 
-/// Appends the numbers of waits.
+/// Appends the numbers of waits and holds.
 fn put_waits(text: &mut Text, numbers: &Numbers)
-    requires { array_vec_len text.old + 2 * METRIC_BYTES ≤ TEXT_BYTES }
+    requires { array_vec_len text.old + 3 * METRIC_BYTES ≤ TEXT_BYTES }
     ensures items { text.new.items ≡ text.old.items ++ spec.waits numbers.now }
-    ensures len { array_vec_len text.new ≤ array_vec_len text.old + 2 * METRIC_BYTES }
+    ensures len { array_vec_len text.new ≤ array_vec_len text.old + 3 * METRIC_BYTES }
 {
     put(
         text,
@@ -317,6 +321,38 @@ fn put_waits(text: &mut Text, numbers: &Numbers)
         "mapd_longest_wait_microseconds",
         "The longest that a call waited for a stripe, at least.",
         numbers.longest_wait_micros,
+    );
+    put(
+        text,
+        Kind::Gauge,
+        "mapd_longest_hold_microseconds",
+        "The longest that a walk, a save or a sweep held a stripe.",
+        numbers.longest_hold_micros,
+    );
+}
+
+/// Appends the numbers of bytes, by kinds.
+fn put_bytes(text: &mut Text, numbers: &Numbers)
+    requires { array_vec_len text.old + METRIC_BYTES + BYTE_KINDS * LABELLED_BYTES ≤ TEXT_BYTES }
+    ensures items { text.new.items ≡ text.old.items ++ spec.bytes numbers.now }
+    ensures len { array_vec_len text.new ≤ array_vec_len text.old + METRIC_BYTES + BYTE_KINDS * LABELLED_BYTES }
+{
+    put_about(text, Kind::Gauge, "mapd_bytes", "Memory by what it is for.");
+    put_labelled(text, "mapd_bytes", "kind", b"rows", numbers.row_bytes);
+    put_labelled(text, "mapd_bytes", "kind", b"index", numbers.index_bytes);
+    put_labelled(
+        text,
+        "mapd_bytes",
+        "kind",
+        b"programs",
+        numbers.program_bytes,
+    );
+    put_labelled(
+        text,
+        "mapd_bytes",
+        "kind",
+        b"sessions",
+        numbers.session_bytes,
     );
 }
 
@@ -333,5 +369,6 @@ pub(crate) fn text_of(numbers: &Numbers) -> Text
     put_keys(&mut text, numbers);
     put_saves(&mut text, numbers);
     put_waits(&mut text, numbers);
+    put_bytes(&mut text, numbers);
     text
 }

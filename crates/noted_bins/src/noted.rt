@@ -11,7 +11,7 @@ use crate::noted_bins::NotedBins;
 use crate::notes::Notes;
 use crate::taken::Taken;
 use atomic_methods::{Call, HashedCall, Workspace};
-use bins::{Bins, Counts, EntryList, HashedKey, Opening};
+use bins::{Bins, Counts, EntryList, HashedKey, Occupied, Occupies, Opening};
 use bpf_model::{NoMemory, Value};
 use std::alloc::Global;
 use timed_bins::{Expiry, TimedBins, TimedReply, Timing};
@@ -168,6 +168,13 @@ impl<T: TimedBins + Drop> Bins for Noted<T> {
     fn replace_each(&mut self, program: &Verified, arg: &Option<Value>) -> Counts {
         self.notes.note_all();
         self.bins.replace_each(program, arg)
+    }
+}
+
+impl<T: TimedBins + Occupies + Drop> Occupies for Noted<T> {
+    /// The keys that changed are beside the rows.
+    fn occupied(&self) -> Occupied {
+        self.bins.occupied().and_beside(self.notes.bytes())
     }
 }
 

@@ -60,6 +60,13 @@ impl Notes {
         self.all
     }
 
+    /// Returns how many bytes the keys take that the lists have room for.
+    pub(crate) fn bytes(&self) -> u64 {
+        let short = self.short.capacity().saturating_mul(size_of::<ShortKey>());
+        let long = self.long.capacity().saturating_mul(size_of::<Key>());
+        short.saturating_add(long) as u64
+    }
+
     /// Returns whether the lists are empty.
     pub(crate) fn is_empty(&self) -> bool
         ensures { IsTrue result → self.now.keys ≡ [] }

@@ -12,6 +12,9 @@ use std::alloc::Global;
 use std::sync::{Mutex, Wait};
 use verifier::Verified;
 
+/// An instruction takes 16 bytes, and so does the operation that it was verified to be.
+const INSTRUCTION_BYTES: u64 = 32;
+
 /// Registered programs, each with a number: the first has 0, the next 1.
 #[derive(Drop)]
 pub struct Registry {
@@ -143,6 +146,18 @@ impl Registry {
     pub fn get(&self, number: u64) -> Option<&Verified> {
         let (_, program) = self.find(number)?;
         Some(program)
+    }
+
+    /// Returns how many bytes the instructions of its programs take, with what they were verified to do. Looks at each program.
+    /// Takes no memory. Never waits.
+    pub fn bytes(&self) -> u64 {
+        let mut instructions = 0_u64;
+        let programs = self.programs.iter();
+        for (_, program) in programs {
+            let more = program.program().instructions().len() as u64;
+            instructions = instructions.saturating_add(more);
+        }
+        instructions.saturating_mul(INSTRUCTION_BYTES)
     }
 
     /// Looks up a number if you have a token of it: you get its program, never `None`. Takes no memory. Never waits.

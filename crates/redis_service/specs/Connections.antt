@@ -94,4 +94,4 @@ AnswersConnection talk old CommandCount written next new = Says talk old (count_
 AnswersConnection talk old CommandDocs written next new = Says talk old (array_head 0) written next new
 AnswersConnection talk old Reset written next new =
     (written ≡ simple_bytes (codes "RESET")) × (next ≡ reset talk) × (new ≡ old)
-AnswersConnection talk old (Config words) written next new = Says talk old (config_bytes words) written next new
+AnswersConnection talk old (Config words) written next new = (least : Option ℕ) × Says talk old (config_bytes least words) written next new

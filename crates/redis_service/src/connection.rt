@@ -181,9 +181,10 @@ fn ping<W: Sink>(word: Option<&[u8]>, sink: &mut W) -> Result<(), Failed>
     }
 }
 
-/// Answers a command of the connection.
+/// Answers a command of the connection. SLOWLOG keeps commands from this number of microseconds on, or none.
 pub fn answer_connection<W: Sink>(
     alloc: Global,
+    least: Option<u64>,
     talk: &mut RedisTalk<'_>,
     command: &ConnectionCommand<'_>,
     sink: &mut W,
@@ -218,6 +219,6 @@ pub fn answer_connection<W: Sink>(
             talk.reset(alloc);
             Replied::Simple(b"RESET").send(&[], sink)
         }
-        ConnectionCommand::Config { parameters } => put_settings(parameters, sink),
+        ConnectionCommand::Config { parameters } => put_settings(least, parameters, sink),
     }
 }

@@ -364,8 +364,10 @@ impl<'a, 's> RedisDesk<'a, 's> {
                 replied.send(&[], sink)
             }
             Command::Connection(command) => {
-                let sent = answer_connection(self.alloc, talk, &command, sink);
-                tell_of(moment.rt, self.state.server.clients(), talk, &command);
+                let server = self.state.server;
+                let least = server.slow().least();
+                let sent = answer_connection(self.alloc, least, talk, &command, sink);
+                tell_of(moment.rt, server.clients(), talk, &command);
                 sent
             }
             Command::Server(command) => self.answer_server(moment, pass, talk, &command, sink),

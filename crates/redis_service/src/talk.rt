@@ -62,6 +62,11 @@ impl<'a> RedisTalk<'a> {
         !self.rest.is_empty()
     }
 
+    /// Returns how many bytes there is room for, for the beginning of a command and the client's name.
+    pub fn bytes(&self) -> usize {
+        self.rest.capacity().saturating_add(self.name.capacity())
+    }
+
     /// Tests whether the talk is over.
     pub(crate) fn is_over(&self) -> bool
         ensures { result ≡ self.now.is_over }

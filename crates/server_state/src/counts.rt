@@ -30,6 +30,8 @@ pub struct Counts {
     pub hits: u64,
     /// Reads of a key that found none.
     pub misses: u64,
+    /// Bytes that are kept for clients. They go up and down.
+    pub session_bytes: u64,
 }
 
 impl Counts {
@@ -55,6 +57,7 @@ impl Counts {
             expired: self.expired.wrapping_add(other.expired),
             hits: self.hits.wrapping_add(other.hits),
             misses: self.misses.wrapping_add(other.misses),
+            session_bytes: self.session_bytes.wrapping_add(other.session_bytes),
         }
     }
 }
@@ -138,6 +141,7 @@ pub struct WorkerCounts {
     expired: Counter,
     hits: Counter,
     misses: Counter,
+    session_bytes: Counter,
     /// What the commands of the last turn asked for last.
     last_command: AtomicU64,
     apart: [u64; 16],
@@ -158,6 +162,7 @@ impl WorkerCounts {
             expired: Counter::new(),
             hits: Counter::new(),
             misses: Counter::new(),
+            session_bytes: Counter::new(),
             last_command: AtomicU64::new(0),
             apart: [0; 16],
         }
@@ -220,6 +225,14 @@ impl WorkerCounts {
         }
     }
 
+    /// This many bytes are kept for a client now, in place of those before. A client that comes had none, and one that leaves has none.
+    #[inline(always)]
+    pub fn count_kept(&self, before: u64, now: u64) {
+        if now != before {
+            self.session_bytes.add(now.wrapping_sub(before));
+        }
+    }
+
     /// A turn of commands ended, of which the last one that has a name asked for this, by a number of the one who notes it; 0: none has.
     pub fn note_command(&self, command: u64) {
         self.last_command.store(command, Ordering::SeqCst);
@@ -258,6 +271,7 @@ impl WorkerCounts {
             expired: self.expired.number(),
             hits: self.hits.number(),
             misses: self.misses.number(),
+            session_bytes: self.session_bytes.number(),
         }
     }
 }

@@ -54,6 +54,13 @@ impl Agenda {
         self.heap.is_empty()
     }
 
+    /// Returns how many bytes the deadlines take that it has room for.
+    pub(crate) fn bytes(&self) -> usize {
+        self.heap
+            .capacity()
+            .saturating_mul(size_of::<(Reverse<u64>, Key)>())
+    }
+
     /// Drops all deadlines, and keeps the room for them.
     pub(crate) fn clear(&mut self)
         ensures { self.new ≡ [] }

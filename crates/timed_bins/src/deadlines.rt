@@ -6,7 +6,7 @@ ghost use Rattle.timed_bins.specs.Looks.{Finds};
 
 use crate::agenda::Agenda;
 use crate::number::{bytes_of, is_over, number_of};
-use bins::{Bins, EntryList, HashedKey, Seed};
+use bins::{Bins, EntryList, HashedKey, Occupies, Seed};
 use bpf_model::{Key, NoMemory};
 use std::alloc::Global;
 use std::marker::Model;
@@ -165,6 +165,17 @@ impl<B: Bins + Drop> Deadlines<B> {
         ensures finds { Finds self.old.times now result }
     {
         find_in(&self.times, &mut self.agenda, now)
+    }
+}
+
+impl<B: Bins + Occupies> Deadlines<B> {
+    /// Returns how many bytes they take, with their agenda.
+    pub(crate) fn bytes(&self) -> u64 {
+        let listed = self.agenda.bytes() as u64;
+        match &self.times {
+            Some(times) => times.occupied().total().saturating_add(listed),
+            None => listed,
+        }
     }
 }
 

@@ -13,7 +13,7 @@ use crate::timed_bins::TimedBins;
 use crate::timing::{Expiry, TimedReply, Timing};
 use crate::touch::change_at;
 use atomic_methods::{HashedCall, Workspace};
-use bins::{Bins, Counts, EntryList, HashedKey, Opening, Seed};
+use bins::{Bins, Counts, EntryList, HashedKey, Occupied, Occupies, Opening, Seed};
 use bpf_model::{NoMemory, Value};
 use std::alloc::Global;
 use std::marker::Model;
@@ -118,6 +118,13 @@ impl<B: Bins + Drop> Bins for Timed<B> {
 
     fn replace_each(&mut self, program: &Verified, arg: &Option<Value>) -> Counts {
         self.bins.replace_each(program, arg)
+    }
+}
+
+impl<B: Bins + Occupies + Drop> Occupies for Timed<B> {
+    /// Deadlines are beside the rows, with their own rows and index.
+    fn occupied(&self) -> Occupied {
+        self.bins.occupied().and_beside(self.deadlines.bytes())
     }
 }
 

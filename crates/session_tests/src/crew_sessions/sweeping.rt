@@ -3,7 +3,9 @@ use super::both_protocols::Line;
 use super::two_crews;
 use bin_stripes::{OpenGate, Pass};
 use bpf_model::NoMemory;
-use crews::{Clients, Event, NextSweep, Parting, Protocol, Standing, Tokens, Worker, attend};
+use crews::{
+    Clients, Event, NextSweep, Parting, Post, Protocol, Standing, Tokens, Worker, attend_each,
+};
 use program_registry::Registry;
 use redis_scripts::Scripts;
 use server_state::ServerState;
@@ -94,7 +96,7 @@ fn a_worker_sweeps(rt: HostRuntime) -> Result<(), Fail> {
         map: &map,
         registry: &registry,
     };
-    let mut clients = Swept {
+    let clients = Swept {
         alloc,
         told: 0,
         time: BEGIN,
@@ -102,7 +104,12 @@ fn a_worker_sweeps(rt: HostRuntime) -> Result<(), Fail> {
         after: NextSweep::Now,
         served: 0,
     };
-    let _ = attend(&worker, &scripts, &state, &mut clients, crew);
+    let number = crew.worker;
+    let mut posts = Vec::with_capacity(alloc, 1)?;
+    posts.push_reserved(Post { crew, clients });
+    let mut back = attend_each(&worker, &scripts, &state, posts)?;
+    let Post { crew, clients } = back.pop().ok_or("nobody came back")?;
+    assert!(&rt; crew.into_crew().worker == number, "another crew came back");
     assert!(&rt; clients.served == 2, "{} of 2 served", clients.served);
     assert!(&rt;
         clients.before == NextSweep::At(BEGIN + 5),

@@ -1,6 +1,6 @@
-use Rattle.std.proofs.Common.{refl, ℕ, List, ◌++◌}
+use Rattle.std.proofs.Common.{◌∙◌, refl, ℕ, List, ◌++◌}
 use Rattle.std.specs.Prelude.{codes}
-use Rattle.metrics_page.specs.Pages.{about}
+use Rattle.metrics_page.specs.Pages.{about, kind_text}
 use Rattle.metrics_page.proofs.PageLemmas.{more}
 use Rattle.metrics_page.proofs.text.put_about.Goals as goal
 
@@ -18,4 +18,4 @@ returns-clause-items c =
     let front-5 : List ℕ = front-4 ++ (codes "\n# TYPE ") in
     let so-6 = more c.args.text.now.items front-5 _ _ _ c.args.name.now so-5 c.append-6.ensures.items c.as_bytes-3.ensures.value in
     let front-6 : List ℕ = front-5 ++ c.args.name.now in
-    more c.args.text.now.items front-6 _ _ (codes " counter\n") (codes " counter\n") so-6 c.append-7.ensures.items refl
+    more c.args.text.now.items front-6 _ _ _ (kind_text c.args.kind) so-6 c.append-7.ensures.items (c.as_bytes-4.ensures.value ∙ c.text.ensures.value)

@@ -16,10 +16,10 @@ returns-clause-items c =
     let front-3 : List ℕ = front-2 ++ c.args.key.now in
     let so-4 = more old front-3 _ _ (codes "=\"") (codes "=\"") so-3 c.append-4.ensures.items refl in
     let front-4 : List ℕ = front-3 ++ (codes "=\"") in
-    let so-5 = more old front-4 _ _ _ c.args.one.now.label.items so-4 c.append-5.ensures.items c.as_slice.ensures.value in
-    let front-5 : List ℕ = front-4 ++ c.args.one.now.label.items in
+    let so-5 = more old front-4 _ _ _ c.args.label.now so-4 c.append-5.ensures.items refl in
+    let front-5 : List ℕ = front-4 ++ c.args.label.now in
     let so-6 = more old front-5 _ _ (codes "\"} ") (codes "\"} ") so-5 c.append-6.ensures.items refl in
     let front-6 : List ℕ = front-5 ++ (codes "\"} ") in
-    let so-7 = more old front-6 _ _ _ (decimal c.args.one.now.number) so-6 c.append-7.ensures.items (c.as_bytes-3.ensures.value ∙ c.format.ensures.text) in
-    let front-7 : List ℕ = front-6 ++ (decimal c.args.one.now.number) in
+    let so-7 = more old front-6 _ _ _ (decimal c.args.number) so-6 c.append-7.ensures.items (c.as_bytes-3.ensures.value ∙ c.format.ensures.text) in
+    let front-7 : List ℕ = front-6 ++ (decimal c.args.number) in
     more old front-7 _ _ (codes "\n") (codes "\n") so-7 c.append-8.ensures.items refl

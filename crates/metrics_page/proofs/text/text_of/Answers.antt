@@ -21,4 +21,6 @@ returns c =
     let so-7 = more c.new-text.result.items front-6 _ _ (spec.saves c.args.numbers.now) (spec.saves c.args.numbers.now) so-6 c.put_saves.ensures.items refl in
     let front-7 : List ℕ = front-6 ++ (spec.saves c.args.numbers.now) in
     let so-8 = more c.new-text.result.items front-7 _ _ (spec.waits c.args.numbers.now) (spec.waits c.args.numbers.now) so-7 c.put_waits.ensures.items refl in
-    so-8 ∙ ap (λ (t : List ℕ). t ++ text c.args.numbers.now) c.new-text.ensures
+    let front-8 : List ℕ = front-7 ++ (spec.waits c.args.numbers.now) in
+    let so-9 = more c.new-text.result.items front-8 _ _ (spec.bytes c.args.numbers.now) (spec.bytes c.args.numbers.now) so-8 c.put_bytes.ensures.items refl in
+    so-9 ∙ ap (λ (t : List ℕ). t ++ text c.args.numbers.now) c.new-text.ensures

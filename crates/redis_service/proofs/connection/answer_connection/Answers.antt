@@ -56,7 +56,7 @@ returns-in-Reset-clause-answers g c pass =
     (simple_bytes (codes "RESET"), sends_of c.send-in-Reset.result (g.W.Sink.state c.args.sink.now) (g.W.Sink.state c.send-in-Reset.new.sink) _ c.send-in-Reset.ensures.ok c.send-in-Reset.ensures.err, rw c.in-Reset.is (refl, c.reset.ensures, refl))
 
 pub returns-in-Config-clause-answers : goal.returns-in-Config-clause-answers
-returns-in-Config-clause-answers g c pass = (config_bytes (texts c.in-Config.parameters.now), c.put_settings.ensures, rw c.in-Config.is (refl, refl, refl))
+returns-in-Config-clause-answers g c pass = (config_bytes c.args.least (texts c.in-Config.parameters.now), c.put_settings.ensures, rw c.in-Config.is (c.args.least, (refl, refl, refl)))
 
 pub returns-in-ClientName-clause-answers : goal.returns-in-ClientName-clause-answers
 returns-in-ClientName-clause-answers g c pass = (
