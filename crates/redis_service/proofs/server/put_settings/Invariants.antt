@@ -11,5 +11,5 @@ abbrev pub invariant-loop-word : goal.invariant-loop-word
 invariant-loop-word g l = record {
   can : OnOk l.sent (CanWrite (g.W.Sink.state l.sink));
   sends : Sends l.sent (g.W.Sink.state l.fn.sink) (g.W.Sink.state l.sink)
-      (array_head (2 * count_by is_setting (texts l.words)) ++ flat_map (setting_bytes l.least) (texts (take l.word-index l.words)));
+      (array_head (2 * count_by is_setting (texts l.words)) ++ flat_map (setting_bytes l.fn.least) (texts (take l.word-index l.words)));
 }
