@@ -321,7 +321,7 @@ module _ (now : ℕ) where
   connection_same talk old ConnectionAsked.CommandCount written next new (is, kept, same) = same
   connection_same talk old ConnectionAsked.CommandDocs written next new (is, kept, same) = same
   connection_same talk old ConnectionAsked.Reset written next new (is, begun, same) = same
-  connection_same talk old (ConnectionAsked.Config words) written next new (least, is, kept, same) = same
+  connection_same talk old (ConnectionAsked.Config words) written next new (least, (is, kept, same)) = same
 
   server_did : (talk : TalkState) (old : PassState) (asks : ServerAsked) (written : List ℕ) (next : TalkState) (new : PassState) → AnswersServer talk old asks written next new → Did old new
   server_did talk old (ServerAsked.Info sections) written next new ((numbers, calls, counts, says), kept) = turns_did CountsStripe counts_did each old new counts.counts counts.turns

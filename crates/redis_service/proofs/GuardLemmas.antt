@@ -95,7 +95,7 @@ connection_keeps talk next old new (SetClientInfo attribute value) written shut 
 connection_keeps talk next old new Commands written shut (said, same, kept) = stays talk next talk old new None shut same kept
 connection_keeps talk next old new CommandCount written shut (said, same, kept) = stays talk next talk old new None shut same kept
 connection_keeps talk next old new CommandDocs written shut (said, same, kept) = stays talk next talk old new None shut same kept
-connection_keeps talk next old new (Config words) written shut (least, said, same, kept) = stays talk next talk old new None shut same kept
+connection_keeps talk next old new (Config words) written shut (least, (said, same, kept)) = stays talk next talk old new None shut same kept
 connection_keeps talk next old new Reset written shut (said, same, kept) =
     stays talk next (reset talk) old new None (still_locked talk.password talk.is_let_in shut) same kept
 
