@@ -389,21 +389,21 @@ def more_bytes(address: str, calls: Callable[[], None]) -> dict[str, int]:
 def bytes_by_kind(program: Path) -> None:
     """Rows grow with entries, the index with keys and deadlines, programs with Registers, and sessions with clients and what they have sent in part."""
     many, value, sizes = 1000, bytes(1000), (64, 1024, 8, 8)
-    units = bytes.fromhex("b705000001000000") * 4000 + bytes.fromhex("b700000008000000 9500000000000000")
+    units = bytes.fromhex("b705000001000000") * 3999 + bytes.fromhex("7a04000001000000 b700000008000000 9500000000000000")
     with started(program, "--workers", "2") as ports:
         same("the kinds", sorted(bytes_of(ports.metrics)), ["index", "programs", "rows", "sessions"])
         same("what is kept for nobody", [bytes_of(ports.metrics)[kind] for kind in ("programs", "sessions")], [0, 0])
-        with wire.opened(ports.frames) as client, redis_wire.Client(ports.commands) as other:
+        with wire.opened(ports.frames, 2) as client, redis_wire.Client(ports.commands) as other, wire.opened(ports.frames, 2) as fresh:
             other.ask("PING")
             kept = bytes_of(ports.metrics)["sessions"]
-            same("what is kept for two clients", 1600 <= kept < 100_000, True)
+            same("what is kept for three clients", 2400 <= kept < 100_000, True)
             more = more_bytes(ports.metrics, lambda: [client.ask(wire.put(b"%d" % number, value)) for number in range(many)])
-            same("entries", (more["rows"] >= many * len(value), more["rows"] < 2 * many * len(value), 8 * many < more["index"] < 100 * many), (True, True, True))
+            same("entries", (more["rows"] >= many * len(value), more["rows"] < 3 * many * len(value), 8 * many < more["index"] < 100 * many), (True, True, True))
             more = more_bytes(ports.metrics, lambda: [other.ask("EXPIRE", b"%d" % number, "3600") for number in range(many)])
-            same("deadlines", (more["rows"], 100 * many < more["index"] < 1000 * many), (0, True))
+            same("deadlines", (more["rows"], 100 * many < more["index"] < 3000 * many), (0, True))
             more = more_bytes(ports.metrics, lambda: [client.ask(wire.register(sizes, units)) for _ in range(3)])
             same("one program, sent three times", more["programs"], 32 * 4002)
-            for one, part in ((client, wire.frame(wire.put(b"a", value))[:-1]), (other, b"*2\r\n$3\r\nGET\r\n$900\r\n" + bytes(800))):
+            for one, part in ((fresh, wire.frame(wire.put(b"a", value))[:-1]), (other, b"*2\r\n$3\r\nGET\r\n$900\r\n" + bytes(800))):
                 more = more_bytes(ports.metrics, lambda: begin(ports.metrics, one, part))
                 same("a request in part", len(part) <= more["sessions"] < 10 * len(part), True)
             same("KEYS", len(redis_wire.members_of(other_walk(ports))), many)
