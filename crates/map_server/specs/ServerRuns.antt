@@ -115,7 +115,7 @@ module _ (bound : TcpListener → List ℕ → Type 0) where
   abbrev pub ServesClients : MapdWords → SinkState → SinkState → ℕ → Type 0
   ServesClients asked old new status =
       ((status ≡ 3) × TakesFront old new (codes "ready\n"))
-      ⊎ ((server : Server) × (ports : Ports) × (metrics : Option TcpListener) × IsAsked asked server × HasPorts bound asked ports metrics
+      ⊎ ((server : Server) × (ports : Ports) × (numbers : Option TcpListener) × IsAsked asked server × HasPorts bound asked ports numbers
       × ((served : Served) × ServedBy server served × EndsServing served old new (codes "ready\n") status))
 
 -- the line of a refusal with this number

@@ -26,17 +26,17 @@ passes_of asked = asked.workers * (1 + asked.team) + (if is_some asked.keep then
 -- over which listener is bound to which address
 module _ (bound : TcpListener → List ℕ → Type 0) where
   -- there is a listener if there is an address, and it is bound to that one
-  abbrev pub IsBoundTo : Option String → Option TcpListener → Type 0
+  abbrev pub IsBoundTo : {A : Type 0} → Option (String A) → Option TcpListener → Type 0
   IsBoundTo None None = Unit {0}
   IsBoundTo None (Some listener) = ⊥
   IsBoundTo (Some address) None = ⊥
   IsBoundTo (Some address) (Some listener) = bound listener (string_bytes address)
 
   -- there is a port at each address that is asked for, and no other: for frames, for commands, and for readers of the server's numbers
-  pub record HasPorts (asked : MapdWords) (ports : Ports) (metrics : Option TcpListener) : Type 0 where
+  pub record HasPorts (asked : MapdWords) (ports : Ports) (numbers : Option TcpListener) : Type 0 where
     pub frames : IsBoundTo asked.listen ports.frames
     pub commands : IsBoundTo asked.redis ports.commands
-    pub metrics : IsBoundTo asked.metrics metrics
+    pub metrics : IsBoundTo asked.metrics numbers
 
 -- the map has the stripes that are asked for; the crews are those that are asked for; each of them may serve as many sessions
 -- as are asked for, within the limits that are, which also say which commands are kept for SLOWLOG; clients speak the protocols of the ports
