@@ -40,10 +40,7 @@ fn posts_of<'a, 'b, 'c, H: Wait + Clock, E: Sink>(
 }
 
 /// The crews of the posts, in the room that is there.
-fn crews_of<P: Drop>(
-    posts: Vec<Post<P, Attended>>,
-    mut crews: Vec<Attended>,
-) -> Vec<Attended>
+fn crews_of<P: Drop>(posts: Vec<Post<P, Attended>>, mut crews: Vec<Attended>) -> Vec<Attended>
     requires empty { crews.items ≡ [] }
     requires room { vec_len posts ≤ vec_capacity crews }
     ensures { result.items ≡ map (λ post. post.crew) posts.items }

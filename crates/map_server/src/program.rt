@@ -248,12 +248,7 @@ fn serve_bound<H: Threads + Wait + Clock + Sync, K: Opener + Binder, W: Sink, E:
 }
 
 /// Listens and serves, and answers the status.
-fn listen<
-    H: Threads + Wait + Clock + Net + Sync,
-    K: Opener + Binder,
-    W: Sink,
-    E: Sink + Send,
->(
+fn listen<H: Threads + Wait + Clock + Net + Sync, K: Opener + Binder, W: Sink, E: Sink + Send>(
     host: &Host<'_, H, K>,
     asked: &MapdWords,
     server: Server,

@@ -18,5 +18,11 @@ returns g c =
     let ends =
     serving_after served (g.W.Sink.state c.args.writer.now) (g.W.Sink.state c.print_at_once.new.writer) (g.W.Sink.state c.finish.new.writer) (codes "ready\n") c.finish.result
     c.in_default.ensures.ok c.finish.ensures in
-    inr (inr (c.args.bound.1, c.args.bound.0.gates.ports, c.args.bound.0.metrics, c.requires.asked, c.requires.ports,
-      (served, subst (λ crews. IfOk served.crews (λ back. HaveAttended c.args.bound.1.registry crews.items back.items)) c.new-ready.ensures.crews same, ends)))
+    inr (inr (
+      c.args.bound.1,
+      c.args.bound.0.gates.ports,
+      c.args.bound.0.metrics,
+      c.requires.asked,
+      c.requires.ports,
+      (served, subst (λ crews. IfOk served.crews (λ back. HaveAttended c.args.bound.1.registry crews.items back.items)) c.new-ready.ensures.crews same, ends),
+    ))
