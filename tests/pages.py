@@ -7,6 +7,7 @@
     and a cell of a table each begin anew. Blocks of code are no sentences, and inline code is one word.
   - 'if' comes at least 4 times in 1,000 words, and 'where' at most 2 times, on pages of 300 words and more: a condition is an 'if'.
   - None of the phrases of BANNED comes.
+  - In the comments of the crates 'if' comes at least 3 times in 1,000 words.
   - The README has at most 700 words, with all that is in blocks and tables. It and the pages of docs/ have at most MOST_OF_DOCS together.
 
 python3 tests/pages.py [--count] [PAGE..]: with --count it prints each page's figures too."""
@@ -22,6 +23,7 @@ from typing import NamedTuple
 ROOT = Path(__file__).resolve().parent.parent
 MOST_WORDS = 30
 LEAST_IFS = 4
+LEAST_IFS_OF_COMMENTS = 3
 LEAST_PAGE = 300
 MOST_OF_README = 700
 MOST_OF_DOCS = 25_400
@@ -144,6 +146,18 @@ def faults_of_length(read: list[Page]) -> Iterator[str]:
         yield f"README.md and docs/: {words} words, and at most {MOST_OF_DOCS} are wanted: what stands twice can go"
 
 
+def faults_of_comments() -> Iterator[str]:
+    """Whether the comments of the crates have too few conditions that say 'if'."""
+    words: list[str] = []
+    for path in sorted(ROOT.glob("crates/*/src/**/*.rt")):
+        for line in path.read_text(encoding="utf-8").splitlines():
+            if line.lstrip().startswith("//"):
+                words += line.lstrip().lstrip("/!").split()
+    ifs = 1000 * sum(word.strip(".,:;()").lower() == "if" for word in words) / max(1, len(words))
+    if ifs < LEAST_IFS_OF_COMMENTS:
+        yield f"crates/*/src: {ifs:.1f} times 'if' in 1,000 words of comments, and at least {LEAST_IFS_OF_COMMENTS} are wanted"
+
+
 def often(page: Page, word: str) -> float:
     """How often a word comes in 1,000 words of prose."""
     prose = " ".join(pieces(page))
@@ -197,7 +211,7 @@ def main() -> int:
             print(f"{figures}: {page.name}")
         for fault in told:
             print(f"{page.name}: {fault}")
-    for fault in faults_of_length(read):
+    for fault in [*faults_of_length(read), *faults_of_comments()]:
         faults += 1
         print(fault)
     print(f"pages: {len(read)} read, {faults} faults")
