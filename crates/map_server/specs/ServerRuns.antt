@@ -94,17 +94,17 @@ tells_none connection = record { left = None; held = None }
 abbrev pub AnyComes : PassState → Connection → Protocol → Type 0
 AnyComes pass connection protocol = Unit {0}
 
--- the crew attended clients until that was over, and came back with the numbers that it had: turns of its own clients, whose programs are all of this
--- registry, and its own sweeps moved it, and nothing else
+-- the crew came back with the numbers that it had: turns of its own clients, whose programs are all of this registry, and its own sweeps moved it, and
+-- nothing else; there may have been none
 pub record HasAttended (registry : Registry) (old new : Crew) : Type 0 where
   pub same : CarriesSame old new
   pub lived : HasLived tells_none AnyComes registry old new
 
--- each crew did
+-- each crew came back so
 abbrev pub HaveAttended : Registry → List Crew → List Crew → Type 0
 HaveAttended registry olds news = Pairwise (HasAttended registry) olds news
 
--- the crews of the server served; or memory was refused, and nobody was served
+-- the crews of the server came back so; or memory was refused, and nobody was served
 abbrev pub ServedBy : Server → Served → Type 0
 ServedBy server served = IfOk served.crews (λ back. HaveAttended server.registry server.crews.items back.items)
 
