@@ -60,7 +60,7 @@ pub fn apply_into<B: Bins>(
         }
         Plan::Give(new) => {
             bytes.set_from(new.as_slice());
-            bins.put(call.key(), new)?;
+            make_change(bins, call.key(), &Change::Enter(new))?;
             Ok(ReplyKind::Some)
         }
         Plan::Run(program, arg) => {
@@ -109,8 +109,8 @@ fn kind_of(told: PlannedReply) -> ReplyKind
     }
 }
 
-/// Makes a change of a key's value.
-#[inline(always)]
+/// Makes a change of a key's value. It is separate so that `apply_into` stays short enough to be inlined.
+#[inline(never)]
 fn make_change<B: Bins>(
     bins: &mut B,
     key: &HashedKey<'_>,

@@ -1,5 +1,5 @@
 //! What a call will do to its key, before anything changes.
-ghost use Rattle.std.specs.Prelude.{◌≡◌};
+ghost use Rattle.std.specs.Prelude.{◌≡◌, ◌↔◌, IsTrue};
 ghost use Rattle.std.specs.Option.{option_copied};
 ghost use Rattle.atomic_methods.specs.Invocations.{invocation_of};
 ghost use Rattle.atomic_methods.specs.Methods.{rule_of};
@@ -40,6 +40,14 @@ pub enum Plan<'c> {
     Run(&'c Verified, Option<&'c Value>),
 }
 
+/// Returns whether a value is the expected one. It is separate, since `plan_of` compares at two places.
+#[inline(never)]
+fn is_expected(old: &[u8], expected: &Value) -> bool
+    ensures { IsTrue result ↔ (old.now ≡ expected.now) }
+{
+    old == expected.as_slice()
+}
+
 /// The rule of each method: what the call does to its key, which has this value or none.
 #[inline(always)]
 pub fn plan_of<'c>(call: &Call<'c>, old: Option<&[u8]>) -> Plan<'c>
@@ -58,7 +66,7 @@ pub fn plan_of<'c>(call: &Call<'c>, old: Option<&[u8]>) -> Plan<'c>
         },
         Call::Remove { .. } => Apply(Remove, Old),
         Call::RemoveIf { expected, .. } => match old {
-            Some(old) if old == expected.as_slice() => Apply(Remove, Done(true)),
+            Some(old) if is_expected(old, expected) => Apply(Remove, Done(true)),
             _ => Apply(Keep, Done(false)),
         },
         Call::Replace { value, .. } => match old {
@@ -70,7 +78,7 @@ pub fn plan_of<'c>(call: &Call<'c>, old: Option<&[u8]>) -> Plan<'c>
             value,
             ..
         } => match old {
-            Some(old) if old == expected.as_slice() => Apply(Enter(value), Done(true)),
+            Some(old) if is_expected(old, expected) => Apply(Enter(value), Done(true)),
             _ => Apply(Keep, Done(false)),
         },
         Call::Compute { program, arg, .. } => Run(program, *arg),

@@ -14,7 +14,7 @@ use crate::ghost_action::GhostAction;
 use crate::held::{
     CallAt, Replacer, make_call, make_copies, make_count, make_expiry, make_replacements, make_scan,
 };
-use crate::holds::{Holds, now_micros};
+use crate::holds::Holds;
 use crate::pass::Pass;
 use crate::rule::{Shape, Striping};
 use crate::seats::{try_call, try_replace, try_scan};
@@ -29,6 +29,7 @@ use std::alloc::Global;
 use std::marker::Model;
 use std::sync::Wait;
 use stripe_rule::View;
+use ticks::micros;
 use timed_bins::{Timed, TimedReply, Timing};
 use verifier::Verified;
 
@@ -144,7 +145,10 @@ impl StripedMap {
         ensures ok { IfOk result (λ kind. Calls pass.old (invocation_of call.now) (reply_by kind bytes.new) pass.new) }
         ensures err { OnErr result (RefusesCall pass.old (invocation_of call.now) pass.new) }
     {
-        Ok(self.make(rt, pass, call, None, bytes)?.kind)
+        match self.make(rt, pass, call, None, bytes) {
+            Ok(timed) => Ok(timed.kind),
+            Err(fault) => Err(fault),
+        }
     }
 
     /// Makes the call as `try_call` does, and leaves the bytes of the replied value in `bytes`, so that no value is moved.
@@ -213,13 +217,19 @@ impl StripedMap {
         let call = HashedCall::new(call);
         let stripe = self.stripe_for(&call);
         let table = &self.table.shared;
-        let at = CallAt {
-            call: &call,
-            timing,
-        };
         let mut seat = pass.known.take();
         take_stripe(rt, table, &mut seat, stripe, &self.turns);
-        let answer = make_call(table, &mut seat, stripe, at, &mut pass.workspace, bytes);
+        let answer = make_call(
+            table,
+            &mut seat,
+            stripe,
+            CallAt {
+                call: &call,
+                timing,
+            },
+            &mut pass.workspace,
+            bytes,
+        );
         pass.known.put(seat);
         answer
     }
@@ -237,7 +247,7 @@ impl StripedMap {
         let table = &self.table.shared;
         let mut seat = pass.known.take();
         take_stripe(rt, table, &mut seat, slot, &self.turns);
-        let begun = now_micros();
+        let begun = micros();
         let expiry = make_expiry(table, &mut seat, slot, now);
         self.holds.ended(begun);
         pass.known.put(seat);
@@ -265,7 +275,7 @@ impl StripedMap {
         let table = &self.table.shared;
         let mut seat = pass.known.take();
         take_stripe(rt, table, &mut seat, slot, &self.turns);
-        let begun = now_micros();
+        let begun = micros();
         let answer = make_scan(alloc, table, &mut seat, slot);
         self.holds.ended(begun);
         pass.known.put(seat);
@@ -292,7 +302,7 @@ impl StripedMap {
         let table = &self.table.shared;
         let mut seat = pass.known.take();
         take_stripe(rt, table, &mut seat, slot, &self.turns);
-        let begun = now_micros();
+        let begun = micros();
         let answer = make_copies(table, &mut seat, slot, list);
         self.holds.ended(begun);
         pass.known.put(seat);
@@ -333,7 +343,7 @@ impl StripedMap {
         let table = &self.table.shared;
         let mut seat = pass.known.take();
         take_stripe(rt, table, &mut seat, slot, &self.turns);
-        let begun = now_micros();
+        let begun = micros();
         let count = make_count(table, &mut seat, slot);
         self.holds.ended(begun);
         pass.known.put(seat);
@@ -363,7 +373,7 @@ impl StripedMap {
         let table = &self.table.shared;
         let mut seat = pass.known.take();
         take_stripe(rt, table, &mut seat, slot, &self.turns);
-        let begun = now_micros();
+        let begun = micros();
         let counts = make_replacements(
             table,
             &mut seat,

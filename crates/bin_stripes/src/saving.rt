@@ -10,7 +10,6 @@ ghost use Rattle.bin_stripes.specs.Releasing.{Lets};
 ghost use Rattle.bin_stripes.specs.Saves.{SavesStripe};
 
 use crate::held::Nothing;
-use crate::holds::now_micros;
 use crate::map::StripedMap;
 use crate::pass::Pass;
 use crate::steps::{PassSeat, Shows, Stripes, let_go, take_stripe};
@@ -18,6 +17,7 @@ use bpf_model::NoMemory;
 use noted_bins::{Changes, NotedBins, Taken};
 use std::snapshot::Snapshot;
 use std::sync::Wait;
+use ticks::micros;
 
 /// Which rows a save adds.
 #[derive(Clone, Copy, Debug, PartialEq, Eq)]
@@ -53,7 +53,7 @@ impl StripedMap {
         let table = &self.table.shared;
         let mut seat = pass.known.take();
         take_stripe(rt, table, &mut seat, slot, &self.turns);
-        let begun = now_micros();
+        let begun = micros();
         let answer = make_save(table, &mut seat, slot, how, changes);
         self.holds.ended(begun);
         pass.known.put(seat);

@@ -57,7 +57,6 @@ pub(crate) fn try_take_stripe<B: NotedBins + Drop>(
 }
 
 /// Takes the stripe. Waits until it is free, and until its turn has come.
-#[inline(always)]
 pub(crate) fn take_stripe<B: NotedBins + Drop, R: Wait>(
     rt: &R,
     table: &Stripes<B>,

@@ -65,7 +65,6 @@ impl Turns {
     }
 
     /// Whether nobody starves at a stripe.
-    #[inline(always)]
     pub(crate) fn are_free(&self, stripe: usize) -> bool {
         self.starving[stripe % STRIPES].load(Ordering::Relaxed) == 0
     }

@@ -39,16 +39,24 @@ fn word_of(bytes: &[u8]) -> Option<u64>
     }
 }
 
+/// Returns whether these are the same bytes. It is separate, since a search compares at two places.
+#[inline(never)]
+fn are_same_bytes(one: &[u8], other: &[u8]) -> bool
+    ensures { IsTrue result ↔ (one.now ≡ other.now) }
+{
+    one == other
+}
+
 /// Returns whether these are the same bytes. Eight are compared as one word, without a call.
 #[inline(always)]
 fn are_same(one: &[u8], other: &[u8]) -> bool
     ensures { IsTrue result ↔ (one.now ≡ other.now) }
 {
     let Some(word) = word_of(one) else {
-        return one == other;
+        return are_same_bytes(one, other);
     };
     let Some(another) = word_of(other) else {
-        return one == other;
+        return are_same_bytes(one, other);
     };
     word == another
 }

@@ -15,7 +15,7 @@ fn byte_at(bytes: &[u8], position: usize) -> u64
 }
 
 /// Returns eight bytes as a number; the first one weighs most.
-#[inline(always)]
+#[inline(never)]
 fn number_of(bytes: &[u8]) -> u64
     ensures value { result ≡ front 8 bytes.now }
 {

@@ -105,8 +105,8 @@ impl Notes {
     }
 
     /// Returns whether a key is noted, by the position at which one with its hash was noted last. It may be noted if it
-    /// returns `false`.
-    #[inline(always)]
+    /// returns `false`. It is separate so that calls on a map that isn't kept have no comparison in them.
+    #[inline(never)]
     fn is_recent(&self, key: &HashedKey<'_>) -> bool
         ensures { IsTrue result → has_key self.now.keys key.now ≡ true }
     {

@@ -14,10 +14,10 @@ use itoa::Buffer;
 use redis_commands::{Command, ConnectionCommand, SlowlogCommand};
 use server_state::{
     ClientView, SLOW_ENTRIES, SLOW_WORDS, ServerState, SlowEntry, SlowLog, SlowWord, client_text,
-    ticks,
 };
 use std::alloc::Global;
 use std::sync::Wait;
+use ticks::{micros, micros_since};
 
 /// At most this many bytes of a word are kept.
 const WORD_BYTES: usize = 64;
@@ -30,7 +30,7 @@ const HELP: &[u8] =
 #[derive(Clone, Copy)]
 pub struct Timer {
     least: u64,
-    begun: u64,
+    begun: Option<u64>,
 }
 
 /// Tests whether the words of a command may have a password.
@@ -54,7 +54,7 @@ pub fn begin(slow: &SlowLog, command: &Command<'_>) -> Option<Timer> {
     }
     Some(Timer {
         least,
-        begun: ticks(),
+        begun: micros(),
     })
 }
 
@@ -109,7 +109,7 @@ impl Timer {
         talk: &RedisTalk<'_>,
         words: &[&[u8]],
     ) {
-        let took = ticks().saturating_sub(self.begun);
+        let took = micros_since(self.begun);
         if took < self.least {
             return;
         }

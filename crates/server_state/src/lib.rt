@@ -7,7 +7,6 @@
 #![tactic(auto)]
 
 mod clients;
-mod clock;
 mod counts;
 mod password;
 mod resident;
@@ -19,7 +18,6 @@ pub use clients::{
     CLIENT_TEXT_BYTES, ClientFact, ClientPulse, ClientText, ClientView, KillFilter, Killed,
     ServerClients, client_number, client_text,
 };
-pub use clock::ticks;
 pub use counts::{Counts, MOST_KINDS, WorkerCounts};
 pub use password::{PASSWORD_BYTES, Password};
 pub use resident::resident_bytes;

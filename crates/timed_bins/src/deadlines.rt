@@ -179,8 +179,9 @@ impl<B: Bins + Occupies> Deadlines<B> {
     }
 }
 
-/// Returns the deadline of a key among those in these bins.
-#[inline(always)]
+/// Returns the deadline of a key among those in these bins. It is separate so that calls without deadlines have no search in
+/// them.
+#[inline(never)]
 fn deadline_in<B: Bins>(times: &Option<B>, key: &HashedKey<'_>) -> Option<u64>
     ensures { result ≡ deadline_of (entries_of B.table times.now) key.now }
 {

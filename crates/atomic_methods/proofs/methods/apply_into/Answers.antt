@@ -12,12 +12,12 @@ returns-in-Get-clause-ok g c =
     rw c.set_from.ensures (value_read _ _ _ _ asked found)
 
 -- the given value is entered and replied
-pub returns-in_ok-put-in-Give-clause-ok : goal.returns-in_ok-put-in-Give-clause-ok
-returns-in_ok-put-in-Give-clause-ok g c =
+pub returns-in_ok-make_change-in-Give-clause-ok : goal.returns-in_ok-make_change-in-Give-clause-ok
+returns-in_ok-make_change-in-Give-clause-ok g c =
     let rule = rw (c.call-2.ensures.value) at c.in-Give.ensures.rule in
     let found = rw (c.in-Some.is, c.key.ensures.value) at c.find.ensures.value in
     let same : c.set_from-in-Give.new.self ≡ c.in-Give.new.now = c.set_from-in-Give.ensures ∙ c.as_slice.ensures.value in
-    (Some c.in-Give.new.now, (rw (← found, ← rule) (refl, ap (λ (v : List ℕ). Value (Some v)) same), rw (← c.key-in-Give.ensures.value) c.in_ok-put-in-Give.ensures.ok))
+    (Some c.in-Give.new.now, (rw (← found, ← rule) (refl, ap (λ (v : List ℕ). Value (Some v)) same), rw (← c.key-in-Give.ensures.value) c.in_ok-make_change-in-Give.ensures.ok))
 
 -- the program runs on the value that was found
 pub enter_answer-requires : goal.enter_answer-requires
