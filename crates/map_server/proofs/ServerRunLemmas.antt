@@ -1,5 +1,6 @@
 -- What `mapd` prints, put together of what each step prints; and that its passes suffice.
 use Rattle.std.proofs.Common.{◌≡◌, ◌∙◌, ◌+◌, ◌*◌, ◌-◌, ◌<◌, ◌≤◌, ◌++◌, ℕ, zero, suc, List, length, arith, [], Option, Some, None, refl, sym, ap, inl, inr}
+use Rattle.std.specs.Prelude.{String, is_some}
 use Rattle.std.specs.Io.KnownBytes.{Appends}
 use Rattle.std.proofs.lemmas.List.{append_assoc, length-map}
 use Rattle.std.proofs.lemmas.Nat.{row_fits}
@@ -8,7 +9,9 @@ use Rattle.stripe_rule.specs.Rule.{from_on}
 use Rattle.bin_stripes.specs.Passes.{PassState}
 use Rattle.bin_stripes.specs.Opened.{IsOpened, pass_of}
 use Rattle.devices.specs.Devices.{SinkState}
-use Rattle.map_server.specs.declared.server.Served.{Served}
+use Rattle.mio.specs.declared.net.listener.TcpListener.{TcpListener}
+use Rattle.map_server.specs.declared.serving.Served.{Served}
+use Rattle.map_server.specs.Servers.{IsBoundTo}
 use Rattle.map_server.specs.ServerRuns.{EndsServing, PrintsAll}
 
 -- ---- what is printed
@@ -28,6 +31,16 @@ serving_after served old mid new before status sends ends = elim ends [
       let front = failed.1.3 in
       inr (failed.0, (failed.1.0, failed.1.1, failed.1.2, (before ++ front.0, (front.1.0, appends_both old.held mid.held new.held before front.0 sends.0.0 front.1.1, ap (λ (l : List ℕ). before ++ l) front.1.2 ∙ sym (append_assoc before front.0 front.1.0)), front.2 ∙ ap (λ (n : ℕ). n + 1) sends.0.1)))
 ]
+
+-- ---- ports
+
+-- there is a listener exactly if there is an address
+pub has_listener : {A : Type 0} (bound : TcpListener → List ℕ → Type 0) (address : Option (String A)) (listener : Option TcpListener)
+    → IsBoundTo bound address listener → is_some listener ≡ is_some address
+has_listener bound None None is = refl
+has_listener bound None (Some listener) is = absurd is
+has_listener bound (Some address) None is = absurd is
+has_listener bound (Some address) (Some listener) is = refl
 
 -- ---- passes
 

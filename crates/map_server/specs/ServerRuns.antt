@@ -21,10 +21,10 @@ use Rattle.crews.specs.Crews.{CarriesSame}
 use Rattle.crews.specs.Lives.{HasLived}
 use Rattle.crews.specs.Steps.{Pairwise}
 use Rattle.map_server.specs.declared.connection.Connection.{Connection}
-use Rattle.map_server.specs.declared.ports.Ports.{Ports}
+use Rattle.map_server.specs.declared.ready.Ready.{Ready}
 use Rattle.map_server.specs.declared.server.Server.{Server}
-use Rattle.map_server.specs.declared.server.Served.{Served}
-use Rattle.map_server.specs.Servers.{HasPorts, IsAsked, passes_of}
+use Rattle.map_server.specs.declared.serving.Served.{Served}
+use Rattle.map_server.specs.Servers.{AreAskedTerms, HasPorts, HasServed, IsAsked, passes_of}
 use Rattle.map_server.specs.ServerWords.{AsksServer, reader_of}
 use Rattle.map_commands.specs.Shown.{IsShown}
 
@@ -104,19 +104,26 @@ pub record HasAttended (registry : Registry) (old new : Crew) : Type 0 where
 abbrev pub HaveAttended : Registry → List Crew → List Crew → Type 0
 HaveAttended registry olds news = Pairwise (HasAttended registry) olds news
 
--- the crews of the server came back so; or memory was refused, and nobody was served
-abbrev pub ServedBy : Server → Served → Type 0
-ServedBy server served = IfOk served.crews (λ back. HaveAttended server.registry server.crews.items back.items)
+-- these crews came back so; or memory was refused, and nobody was served
+abbrev pub ServedBy : Registry → List Crew → Served → Type 0
+ServedBy registry crews served = IfOk served.crews (λ back. HaveAttended registry crews back.items)
 
--- over which listener is bound to which address
-module _ (bound : TcpListener → List ℕ → Type 0) where
+-- `ready` can't be printed; or it is, then this is served, an end of serving is seen, and then it is printed
+abbrev pub ServesReady : (Served → Type 0) → Registry → Ready → SinkState → SinkState → ℕ → Type 0
+ServesReady saw registry ready old new status =
+    ((status ≡ 3) × TakesFront old new (codes "ready\n"))
+    ⊎ ((served : Served) × saw served × HasServed ready served × ServedBy registry ready.crews.items served × EndsServing served old new (codes "ready\n") status)
+
+-- over which listener is bound to which address, and which end of serving was seen
+module _ (bound : TcpListener → List ℕ → Type 0) (saw : Served → Type 0) where
   -- `ready` can't be printed; or it is, then a server as it is asked for, whose ports are bound to the addresses asked for, serves clients, and
   -- then how that ended is printed
   abbrev pub ServesClients : MapdWords → SinkState → SinkState → ℕ → Type 0
   ServesClients asked old new status =
       ((status ≡ 3) × TakesFront old new (codes "ready\n"))
-      ⊎ ((server : Server) × (ports : Ports) × (numbers : Option TcpListener) × IsAsked asked server × HasPorts bound asked ports numbers
-      × ((served : Served) × ServedBy server served × EndsServing served old new (codes "ready\n") status))
+      ⊎ ((server : Server) × (served : Served) × (numbers : Option TcpListener)
+      × IsAsked asked server × AreAskedTerms asked served.terms × HasPorts bound asked served.ports numbers
+      × (saw served × ServedBy server.registry server.crews.items served × EndsServing served old new (codes "ready\n") status))
 
 -- the line of a refusal with this number
 abbrev pub refusal_line : ℕ → List ℕ
@@ -135,13 +142,13 @@ FailsToRestore asked old new status =
 abbrev pub LacksPassword : MapdWords → Outputs → Outputs → ℕ → Type 0
 LacksPassword asked old new status = (is_some asked.password_file ≡ true) × (status ≡ 3) × (new.output ≡ old.output)
 
--- over which listener is bound to which address
-module _ (bound : TcpListener → List ℕ → Type 0) where
+-- over which listener is bound to which address, and which end of serving was seen
+module _ (bound : TcpListener → List ℕ → Type 0) (saw : Served → Type 0) where
   -- a port could not be bound; or all were, but the map was not restored from its file; or it was, or is not kept, and clients are served
   abbrev pub Listens : MapdWords → Outputs → Outputs → ℕ → Type 0
   Listens asked old new status =
       FailsToListen old new status
-      ⊎ (FailsToRestore asked old.output new.output status ⊎ ServesClients bound asked old.output new.output status)
+      ⊎ (FailsToRestore asked old.output new.output status ⊎ ServesClients bound saw asked old.output new.output status)
 
   -- what a call does: its words ask for no server; or there is no password; or no map is opened; or it listens
   abbrev pub RunsMapd : List (List ℕ) → Outputs → Outputs → ℕ → Type 0

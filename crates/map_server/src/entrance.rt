@@ -1,4 +1,5 @@
 //! What the workers share: the ports, and what is counted and told of those who come.
+ghost use Rattle.std.specs.Prelude.{◌≡◌};
 
 use crate::arrivals::{Arrivals, Then};
 use crate::connection::Connection;
@@ -75,7 +76,9 @@ impl<'a, 'b, H: Wait + Clock, E: Sink> Entrance<'a, 'b, H, E> {
         state: &'a ServerState,
         gates: Gates,
         quotas: Quotas,
-    ) -> Entrance<'a, 'b, H, E> {
+    ) -> Entrance<'a, 'b, H, E>
+        ensures { result.ports ≡ gates.ports }
+    {
         let Gates { ports, wakers } = gates;
         let spare = Mutex::new(spare_of(&ports));
         let wall_clock = WallClock::new(arrivals.rt);
@@ -98,9 +101,11 @@ impl<'a, 'b, H: Wait + Clock, E: Sink> Entrance<'a, 'b, H, E> {
         }
     }
 
-    /// What tells standard error.
-    pub(crate) fn into_telling(self) -> Telling<'b, E> {
-        self.arrivals.into_telling()
+    /// The ports, and what tells standard error.
+    pub(crate) fn into_parts(self) -> (Ports, Telling<'b, E>)
+        ensures { result.0 ≡ self.entry.ports }
+    {
+        (self.ports, self.arrivals.into_telling())
     }
 
     /// Whether a worker with this number of clients has no more than its share of all clients.

@@ -1,5 +1,6 @@
 //! Keeping the map in a file: it is restored before clients are served, and saved while they are.
-ghost use Rattle.std.specs.Prelude.{◌≡◌, true, IfOk, IfErr, IfSome, is_some};
+ghost use Rattle.std.specs.Prelude.{◌≡◌, true, Some, None, if◌then◌else◌, IfOk, IfErr, IfSome, is_some};
+ghost use Rattle.core.specs.Option.{option_map};
 ghost use Rattle.std.specs.Option.{ForSome};
 ghost use Rattle.map_keeper.specs.Keepers.{pass_of};
 
@@ -33,7 +34,7 @@ pub(crate) struct Host<'a, H, K> {
 pub(crate) struct Kept<'a> {
     pub(crate) keeper: Keeper<OnDisk>,
     path: &'a str,
-    seconds: u64,
+    pub(crate) seconds: u64,
 }
 
 /// The line that tells what was restored, and in which time.
@@ -104,16 +105,17 @@ pub(crate) fn restored<'a, H: Wait + Clock, K: Opener, E: Sink>(
     shared: &Shared<'_, '_>,
     errors: &mut Telling<'_, E>,
 ) -> Result<Option<Kept<'a>>, RestoreFault>
-    requires { ForSome pass (λ pass. pass.map ≡ shared.now.map.now) }
+    requires map { ForSome pass (λ pass. pass.map ≡ shared.now.map.now) }
+    requires pass { is_some pass ≡ is_some asked.now.keep }
     ensures ok { IfOk result (λ kept. IfSome kept (λ kept. (pass_of kept.keeper).map ≡ shared.now.map.now)) }
+    ensures keeps { IfOk result (λ kept. option_map (λ kept. kept.seconds) kept ≡
+        (if is_some asked.now.keep then Some asked.now.keep_seconds else None)) }
     ensures err { IfErr result (λ _. is_some asked.now.keep ≡ true) }
 {
     let Some(path) = &asked.keep else {
         return Ok(None);
     };
-    let Some(pass) = pass else {
-        return Ok(None);
-    };
+    let Some(pass) = pass else { unreachable!() };
     let path = path.as_str();
     let mut stopwatch = Stopwatch::new(host.rt);
     let (keeper, restored) = restored_from(host, path, pass, shared)?;

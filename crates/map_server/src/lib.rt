@@ -22,9 +22,11 @@ mod ports;
 mod posts;
 mod program;
 mod quotas;
+mod ready;
 mod roll;
 mod seats;
 mod server;
+mod serving;
 mod shared_stream;
 mod sockets;
 mod stopwatch;
@@ -34,6 +36,7 @@ mod tcp_clients;
 mod telling;
 mod threads;
 mod wall_clock;
+mod witness;
 mod words;
 
 pub use accept::{TcpAccept, TcpReader, TcpWriter};
@@ -48,12 +51,15 @@ pub use map_commands::{
     hex_bytes, parse_words, report_of, tell_unread_words, unit_lines,
 };
 pub use map_keeper::{HostFiles, KeepFault, KeptFile, OnDisk, Opener};
+pub use opening::open_server;
 pub use passwords::PasswordFiles;
 pub use ports::{Binder, Ports, first_listener};
 pub use program::mapd_on;
 pub use quotas::Quotas;
-pub use server::{Protocols, Served, Server};
+pub use server::{Protocols, Server};
+pub use serving::Served;
 pub use sessions::{Alone, Answer, Service, SessionEnd, run_session, session_alone};
 pub use shared_stream::SharedStream;
 pub use telling::Telling;
+pub use witness::Witness;
 pub use words::{MapdWords, WordsFault, mapd_words};

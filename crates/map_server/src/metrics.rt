@@ -1,5 +1,5 @@
 //! The port at which Prometheus reads the server's numbers.
-ghost use Rattle.std.specs.Prelude.{◌≡◌, IfSome, Some, length};
+ghost use Rattle.std.specs.Prelude.{◌≡◌, IfSome, Some, is_some, length};
 ghost use Rattle.map_server.specs.Readers.{FitsRoom};
 
 use crate::keeping::Bell;
@@ -44,7 +44,8 @@ pub(crate) struct Watch {
 impl Watch {
     /// The port and the pass, if both are there.
     pub(crate) fn of(listener: Option<Watched>, pass: Option<Pass>) -> Option<Watch>
-        ensures { IfSome result (λ watch. pass ≡ Some watch.pass) }
+        ensures pass { IfSome result (λ watch. pass ≡ Some watch.pass) }
+        ensures there { is_some listener ≡ is_some pass → is_some result ≡ is_some pass }
     {
         match (listener, pass) {
             (Some(listener), Some(pass)) => Some(Watch {

@@ -4,18 +4,22 @@ ghost use Rattle.clap.specs.Walk.{texts};
 ghost use Rattle.clap.specs.Words.{fault_of, HasKind};
 ghost use Rattle.devices.specs.Devices.{CanWrite, TakesFront, TakesIfItCan};
 ghost use Rattle.map_commands.specs.Endings.{outputs};
-ghost use Rattle.map_server.specs.Servers.{HasPorts, IsAsked};
-ghost use Rattle.map_server.specs.ServerRuns.{EndsServerWords, EndsServing, FailsToRestore, IsLastLine, Listens, PrintsAll, RunsMapd, ServesClients, TellsOpenFault, refusal_line};
+ghost use Rattle.map_server.specs.Servers.{CanServe, HasPorts, IsAsked};
+ghost use Rattle.map_server.specs.ServerRuns.{EndsServerWords, EndsServing, FailsToRestore, IsLastLine, Listens, PrintsAll, RunsMapd, ServesClients, ServesReady, TellsOpenFault, refusal_line};
 ghost use Rattle.map_server.specs.ServerWords.{reader_of, IsWordsFault};
 
 use crate::keeping::{Host, restored, tell_fault_of_file};
+use crate::metrics::Watch;
 use crate::opening::open_server;
 use crate::passwords::{PasswordFiles, given_password, tell_no_password};
 use crate::ports::{Binder, ListenFault};
-use crate::server::{Served, Server};
-use crate::tcp::{Bound, Ready, bind, serve_ports};
+use crate::ready::Ready;
+use crate::server::Server;
+use crate::serving::{Served, serve_ports};
+use crate::tcp::{Bound, bind};
 use crate::telling::Telling;
 use crate::threads::{Others, tell_running};
+use crate::witness::Witness;
 use crate::words::{MapdWords, WordsFault, mapd_words};
 use bin_stripes::OpenFault;
 use bins::Seed;
@@ -124,11 +128,15 @@ fn served_line(streams: u64) -> Line
 fn last_line(served: &Served) -> (Line, u8)
     ensures { IsLastLine served.now result.0.items result.1 }
 {
-    match served.crews {
-        Ok(_) if served.has_failed => (served_line(served.streams), FAILED_DEVICE),
-        Ok(_) => (served_line(served.streams), 0),
-        Err(NoMemory) => (text_line(b"refused 9 at 0\n"), REFUSED),
+    if served.is_refused() {
+        return (text_line(b"refused 9 at 0\n"), REFUSED);
     }
+    let status = if served.has_failed() {
+        FAILED_DEVICE
+    } else {
+        0
+    };
+    (served_line(served.streams()), status)
 }
 
 /// Prints how serving has ended, and answers the status.
@@ -186,9 +194,53 @@ fn tell_not_restored<W: Sink, E: Sink>(
     }
 }
 
-/// Tells the addresses that were bound, restores the map if it is kept, prints `ready`, serves clients until each worker has ended, and
-/// answers the status.
-fn serve_bound<H: Threads + Wait + Clock + Sync, K: Opener + Binder, W: Sink, E: Sink + Send>(
+/// Tells the addresses that were bound, and how many of the server's threads run.
+fn tell_start<H: Threads + Wait + Sync, K, E: Sink>(
+    host: &Host<'_, H, K>,
+    lines: &str,
+    server: &Server,
+    errors: &mut Telling<'_, E>,
+) {
+    errors.tell(lines.as_bytes());
+    let others = Others {
+        saves: server.keeper.is_some(),
+        answers: server.watcher.is_some(),
+    };
+    let workers = server.crews.len() as u64;
+    tell_running(host.rt, host.alloc, workers, others, errors);
+}
+
+/// Prints `ready`, serves clients until each worker has ended, and answers the status, and what tells standard error.
+fn serve_ready<'e, H: Threads + Wait + Clock + Sync, K: Witness, W: Sink, E: Sink + Send>(
+    host: &Host<'_, H, K>,
+    ready: Ready<'_>,
+    shared: &Shared<'_, '_>,
+    writer: &mut W,
+    errors: Telling<'e, E>,
+) -> (u8, Telling<'e, E>)
+    requires writes { CanWrite (W.state writer.old) }
+    requires ready { CanServe shared.now ready }
+    ensures { ServesReady K.saw shared.now.registry.now ready.entry (W.state writer.old) (W.state writer.new) result.0 }
+{
+    let mut errors = errors;
+    if let Err(Failed) = print_at_once(writer, b"ready\n") {
+        drop(ready);
+        let status = tell_failed_write(&mut errors);
+        return (status, errors);
+    }
+    let (served, mut errors) = serve_ports(host.rt, ready, shared, errors);
+    host.machine.see(&served);
+    let status = finish(&served, writer, &mut errors);
+    (status, errors)
+}
+
+/// Tells the addresses that were bound, restores the map if it is kept, serves clients, and answers the status.
+fn serve_bound<
+    H: Threads + Wait + Clock + Sync,
+    K: Opener + Binder + Witness,
+    W: Sink,
+    E: Sink + Send,
+>(
     host: &Host<'_, H, K>,
     asked: &MapdWords,
     bound: (Bound, Server),
@@ -198,25 +250,15 @@ fn serve_bound<H: Threads + Wait + Clock + Sync, K: Opener + Binder, W: Sink, E:
     requires writes { CanWrite (W.state writer.old) }
     requires warns { CanWrite (E.state errors.old) }
     requires asked { IsAsked asked.now bound.1 }
+    requires password { is_some bound.1.password ≡ is_some asked.now.password_file }
     requires polls { vec_len bound.0.polls ≡ vec_len bound.1.crews }
     requires ports { HasPorts K.bound asked.now bound.0.gates.ports bound.0.metrics }
     ensures { FailsToRestore asked.now (W.state writer.old) (W.state writer.new) result
-        ⊎ ServesClients K.bound asked.now (W.state writer.old) (W.state writer.new) result }
+        ⊎ ServesClients K.bound K.saw asked.now (W.state writer.old) (W.state writer.new) result }
 {
     let (bound, server) = bound;
     let mut telling = Telling::new(errors);
-    telling.tell(bound.lines.as_bytes());
-    let workers = server.crews.len() as u64;
-    tell_running(
-        host.rt,
-        host.alloc,
-        workers,
-        Others {
-            saves: server.keeper.is_some(),
-            answers: server.watcher.is_some(),
-        },
-        &mut telling,
-    );
+    tell_start(host, bound.lines.as_str(), &server, &mut telling);
     let Server {
         map,
         registry,
@@ -229,6 +271,12 @@ fn serve_bound<H: Threads + Wait + Clock + Sync, K: Opener + Binder, W: Sink, E:
         watcher,
         ..
     } = server;
+    let Bound {
+        gates,
+        polls,
+        metrics,
+        ..
+    } = bound;
     let scripts = Scripts::bounded(host.alloc, &registry, scripts as usize);
     let shared = Shared {
         map: &map,
@@ -239,26 +287,33 @@ fn serve_bound<H: Threads + Wait + Clock + Sync, K: Opener + Binder, W: Sink, E:
         Ok(kept) => kept,
         Err(fault) => return tell_not_restored(host.alloc, asked, &fault, writer, &mut telling),
     };
-    if let Err(Failed) = print_at_once(writer, b"ready\n") {
-        return tell_failed_write(&mut telling);
-    }
-    let ready = Ready::new(bound, crews, quotas, limits, password, watcher);
-    let (served, mut telling) = serve_ports(host.rt, host.alloc, ready, &shared, kept, telling);
-    finish(&served, writer, &mut telling)
+    let ready = Ready {
+        alloc: host.alloc,
+        crews,
+        polls,
+        gates,
+        quotas,
+        limits,
+        password,
+        kept,
+        watch: Watch::of(metrics, watcher),
+    };
+    let (status, _) = serve_ready(host, ready, &shared, writer, telling);
+    status
 }
 
 /// Listens and serves, and answers the status.
-fn listen<H: Threads + Wait + Clock + Net + Sync, K: Opener + Binder, W: Sink, E: Sink + Send>(
-    host: &Host<'_, H, K>,
-    asked: &MapdWords,
-    server: Server,
-    writer: &mut W,
-    errors: &mut E,
-) -> u8
+fn listen<
+    H: Threads + Wait + Clock + Net + Sync,
+    K: Opener + Binder + Witness,
+    W: Sink,
+    E: Sink + Send,
+>(host: &Host<'_, H, K>, asked: &MapdWords, server: Server, writer: &mut W, errors: &mut E) -> u8
     requires writes { CanWrite (W.state writer.old) }
     requires warns { CanWrite (E.state errors.old) }
     requires asked { IsAsked asked.now server }
-    ensures { Listens K.bound asked.now (outputs (W.state writer.old) (E.state errors.old))
+    requires password { is_some server.password ≡ is_some asked.now.password_file }
+    ensures { Listens K.bound K.saw asked.now (outputs (W.state writer.old) (E.state errors.old))
         (outputs (W.state writer.new) (E.state errors.new)) result }
 {
     match bind(host, asked, server.crews.len()) {
@@ -290,16 +345,16 @@ fn drawn_seed<R: RandomSource>(rt: &R) -> Seed {
 /// Does what the words ask for (the first is the program's name), and returns the status: 0 if it served as many sessions
 /// as it was asked for, 1 for a refusal, 2 for a fault of the words, which standard error is told in clap's text, and 3 for
 /// a failed listen, accept, write or last save, or a file that can't be used, which it is told in a line. `machine` has the file in
-/// which the map is kept, if it is, and that of the password, and binds the ports. Waits for clients.
+/// which the map is kept, if it is, and that of the password, binds the ports, and sees how serving them ended. Waits for clients.
 pub fn mapd_on<
     H: Threads + Wait + Clock + RandomSource + Net + Sync,
-    K: Opener + PasswordFiles + Binder,
+    K: Opener + PasswordFiles + Binder + Witness,
     W: Sink,
     E: Sink + Send,
 >(rt: &H, alloc: Global, machine: &K, words: &[&str], writer: &mut W, errors: &mut E) -> u8
     requires writes { CanWrite (W.state writer.old) }
     requires warns { CanWrite (E.state errors.old) }
-    ensures runs { RunsMapd K.bound (texts words.now) (outputs (W.state writer.old) (E.state errors.old))
+    ensures runs { RunsMapd K.bound K.saw (texts words.now) (outputs (W.state writer.old) (E.state errors.old))
         (outputs (W.state writer.new) (E.state errors.new)) result }
 {
     let asked = match mapd_words(alloc, words) {

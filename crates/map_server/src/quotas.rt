@@ -26,6 +26,13 @@ impl Quotas {
         Ok(Quotas { begun, most })
     }
 
+    /// How many sessions each worker may begin; none: any number.
+    pub(crate) fn most(&self) -> Option<u64>
+        ensures { result ≡ self.now.most }
+    {
+        self.most
+    }
+
     /// How many workers there are.
     pub(crate) fn workers(&self) -> u64 {
         self.begun.len() as u64

@@ -1,4 +1,4 @@
-//! What `mapd` serves, and how serving ended.
+//! What `mapd` serves.
 ghost use Rattle.std.specs.Prelude.{◌≡◌, All};
 ghost use Rattle.std.specs.Option.{ForSome};
 ghost use Rattle.crews.specs.Crews.{IsCrewOf};
@@ -6,8 +6,7 @@ ghost use Rattle.crews.specs.Crews.{IsCrewOf};
 use crate::arrivals::Limits;
 use crate::quotas::Quotas;
 use bin_stripes::{Pass, StripedMap};
-use bpf_model::NoMemory;
-use crews::{Attended, Crew};
+use crews::Crew;
 use program_registry::Registry;
 use server_state::Password;
 
@@ -40,15 +39,4 @@ pub struct Server {
     ghost serve: { All (λ crew. IsCrewOf map crew) crews.items },
     ghost keeps: { ForSome keeper (λ pass. pass.map ≡ map) },
     ghost watches: { ForSome watcher (λ pass. pass.map ≡ map) },
-}
-
-/// How serving ended.
-#[derive(Drop)]
-pub struct Served {
-    /// The crews; or `NoMemory` if a request for the lists of workers was refused.
-    pub crews: Result<Vec<Attended>, NoMemory>,
-    /// How many clients were handed out.
-    pub streams: u64,
-    /// An accept failed, or the last save of the map.
-    pub has_failed: bool,
 }

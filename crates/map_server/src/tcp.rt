@@ -1,29 +1,23 @@
 //! The ports that `mapd` listens on, and their clients.
-ghost use Rattle.std.specs.Prelude.{◌≡◌, IfOk, IfSome, IsErr, IsSomeAnd, All, Some, vec_len};
+ghost use Rattle.std.specs.Prelude.{◌≡◌, IfOk, IfSome, IsSomeAnd, All, vec_len};
 ghost use Rattle.crews.specs.Crews.{IsCrewOf};
 ghost use Rattle.map_keeper.specs.Keepers.{pass_of};
 ghost use Rattle.map_server.specs.Servers.{HasPorts};
 ghost use Rattle.map_server.specs.ServerRuns.{HaveAttended};
 
-use crate::arrivals::{Arrivals, Limits};
 use crate::entrance::{Entrance, Gates};
 use crate::keeping::{Bell, Host, Kept, Saver};
 use crate::metrics::{Watch, Watcher};
 use crate::ports::{Binder, ListenFault, Ports, WAKE, add_line, listen_at};
 use crate::posts::attend_all;
-use crate::quotas::Quotas;
-use crate::server::Served;
-use crate::telling::Telling;
-use crate::wall_clock::WallClock;
 use crate::words::MapdWords;
-use bin_stripes::{OpenGate, Pass};
+use bin_stripes::OpenGate;
 use bpf_model::NoMemory;
 use crews::{Attended, Crew, Worker};
 use devices::Sink;
 use map_keeper::Shared;
 use mio::net::TcpListener;
 use mio::{Poll, Waker};
-use server_state::{Password, ServerState, SlowLog};
 use std::alloc::Global;
 use std::io;
 use std::net::Net;
@@ -90,51 +84,6 @@ pub(crate) fn bind<'a, H: Net, K: Binder>(
     })
 }
 
-/// The crews that serve, each with a poll, how many sessions they may begin, to how many clients at once, the password that clients of
-/// commands have to show, and what readers of the server's numbers are answered with.
-#[derive(Drop)]
-pub(crate) struct Ready {
-    pub(crate) crews: Vec<Crew>,
-    pub(crate) polls: Vec<Poll>,
-    pub(crate) gates: Gates,
-    pub(crate) quotas: Quotas,
-    pub(crate) limits: Limits,
-    pub(crate) password: Option<Password>,
-    pub(crate) watch: Option<Watch>,
-}
-
-impl Ready {
-    /// These crews and this watcher, at what is bound.
-    pub(crate) fn new(
-        bound: Bound,
-        crews: Vec<Crew>,
-        quotas: Quotas,
-        limits: Limits,
-        password: Option<Password>,
-        watcher: Option<Pass>,
-    ) -> Ready
-        ensures crews { result.crews ≡ crews }
-        ensures polls { result.polls ≡ bound.polls }
-        ensures watch { IfSome result.watch (λ watch. watcher ≡ Some watch.pass) }
-    {
-        let Bound {
-            gates,
-            polls,
-            metrics,
-            ..
-        } = bound;
-        Ready {
-            crews,
-            polls,
-            gates,
-            quotas,
-            limits,
-            password,
-            watch: Watch::of(metrics, watcher),
-        }
-    }
-}
-
 /// Serves clients, while a thread of its own keeps the map. If no thread can be made, the map is saved at the end alone. Returns also
 /// whether the last save failed.
 fn attend_and_keep<'a, 'r, H: Threads + Wait + Clock + Sync, E: Sink + Send>(
@@ -183,7 +132,7 @@ fn attend_and_keep<'a, 'r, H: Threads + Wait + Clock + Sync, E: Sink + Send>(
 }
 
 /// Serves clients, and keeps the map meanwhile, if it is kept. Returns also whether the last save failed.
-fn attend<'a, 'r, H: Threads + Wait + Clock + Sync, E: Sink + Send>(
+pub(crate) fn attend<'a, 'r, H: Threads + Wait + Clock + Sync, E: Sink + Send>(
     worker: &Worker<'a, H, OpenGate>,
     shared: &Shared<'a, 'r>,
     entrance: &Entrance<'a, '_, H, E>,
@@ -207,7 +156,7 @@ fn attend<'a, 'r, H: Threads + Wait + Clock + Sync, E: Sink + Send>(
 }
 
 /// Serves clients, while a thread of its own answers readers of the server's numbers. If no thread can be made, none is answered.
-fn attend_and_watch<'a, 'r, H: Threads + Wait + Clock + Sync, E: Sink + Send>(
+pub(crate) fn attend_and_watch<'a, 'r, H: Threads + Wait + Clock + Sync, E: Sink + Send>(
     worker: &Worker<'a, H, OpenGate>,
     shared: &Shared<'a, 'r>,
     entrance: &Entrance<'a, '_, H, E>,
@@ -247,88 +196,4 @@ fn attend_and_watch<'a, 'r, H: Threads + Wait + Clock + Sync, E: Sink + Send>(
     };
     let ((), served) = join(worker.rt, watching, serving);
     served
-}
-
-/// Nobody was served: memory was refused.
-fn nobody_served() -> Served
-    ensures { IsErr result.crews }
-{
-    Served {
-        crews: Err(NoMemory),
-        streams: 0,
-        has_failed: false,
-    }
-}
-
-/// What all threads know of a server that began at this time, and keeps commands for SLOWLOG from this number of microseconds on, if there
-/// is one. `NoMemory` if a request for memory was refused.
-fn state_of(
-    alloc: Global,
-    workers: u64,
-    keeps: bool,
-    began: u64,
-    slow: Option<u64>,
-) -> Result<ServerState, NoMemory> {
-    let state = ServerState::new(alloc, workers, keeps, began)?;
-    match slow {
-        None => Ok(state),
-        Some(least) => Ok(state.with_slow_log(SlowLog::from(alloc, least)?)),
-    }
-}
-
-/// Serves clients of the ports until each worker has ended. Meanwhile it keeps the map, if it is kept, and answers readers of the server's
-/// numbers, if there is a port for them. Standard error is told what goes wrong, and given back.
-pub(crate) fn serve_ports<'a, H: Threads + Wait + Clock + Sync, E: Sink + Send>(
-    rt: &H,
-    alloc: Global,
-    ready: Ready,
-    shared: &Shared<'_, '_>,
-    kept: Option<Kept<'_>>,
-    errors: Telling<'a, E>,
-) -> (Served, Telling<'a, E>)
-    requires crews { All (λ crew. IsCrewOf shared.now.map.now crew) ready.crews.items }
-    requires polls { vec_len ready.polls ≡ vec_len ready.crews }
-    requires kept { IfSome kept (λ kept. (pass_of kept.keeper).map ≡ shared.now.map.now) }
-    requires watch { IfSome ready.watch (λ watch. watch.pass.map ≡ shared.now.map.now) }
-    ensures { IfOk result.0.crews (λ back.
-        HaveAttended shared.now.registry.now ready.crews.items back.items × All (λ crew. IsCrewOf shared.now.map.now crew) back.items) }
-{
-    let began = WallClock::new(rt).look();
-    let workers = ready.crews.len() as u64;
-    let Ok(state) = state_of(alloc, workers, kept.is_some(), began, ready.limits.slow) else {
-        return (nobody_served(), errors);
-    };
-    let Ready {
-        crews,
-        polls,
-        gates,
-        quotas,
-        limits,
-        password,
-        watch,
-    } = ready;
-    let state = state.with_password(password);
-    let entrance = Entrance::new(
-        Arrivals::new(rt, alloc, limits, errors),
-        &state,
-        gates,
-        quotas,
-    );
-    let worker = Worker {
-        rt,
-        alloc,
-        gate: &OpenGate,
-        map: shared.map,
-        registry: shared.registry,
-    };
-    let (crews, has_failed) = match watch {
-        None => attend(&worker, shared, &entrance, crews, polls, kept),
-        Some(watch) => attend_and_watch(&worker, shared, &entrance, (crews, polls), kept, watch),
-    };
-    let served = Served {
-        crews,
-        streams: entrance.arrivals.streams(),
-        has_failed: has_failed || entrance.arrivals.has_failed(),
-    };
-    (served, entrance.into_telling())
 }

@@ -3,8 +3,8 @@ mod clients;
 
 use crate::bpfmap::memory::{ROOM, Room};
 use map_server::{
-    Binder, KeepFault, KeptFile, MapdWords, OnDisk, Opener, PasswordFiles, StreamSink, WordsFault,
-    first_listener, mapd_on, mapd_words,
+    Binder, KeepFault, KeptFile, MapdWords, OnDisk, Opener, PasswordFiles, Served, StreamSink,
+    Witness, WordsFault, first_listener, mapd_on, mapd_words,
 };
 use mio::net::TcpListener as Listener;
 use std::alloc::{AllocError, Global};
@@ -44,6 +44,10 @@ impl Binder for NoFiles {
     fn bind<H: Net>(&self, rt: &H, address: &str) -> io::Result<Listener> {
         first_listener(rt, address)
     }
+}
+
+impl Witness for NoFiles {
+    fn see(&self, _served: &Served) {}
 }
 
 /// Makes one call, with this much room in standard output.
