@@ -28,7 +28,7 @@ start_mapd() {
 }
 
 # The side's name, its port, and whether it appends to a file. Redis takes no free port by itself, so one is guessed.
-start_redis() {
+start_redis_for() {
     mkdir -p "$work/$1"
     redis-server --port "$2" --bind 127.0.0.1 --save '' --appendonly "$3" --appendfsync everysec --dir "$work/$1" > "$work/$1.told" 2>&1 &
     process[$1]=$!
@@ -40,8 +40,8 @@ start() {
     case $1 in
         mapd) start_mapd mapd ;;
         keep) start_mapd keep --keep "$work/map.db" ;;
-        redis) start_redis redis $((20000 + $$ % 10000)) no ;;
-        appends) start_redis appends $((30000 + $$ % 10000)) yes ;;
+        redis) start_redis_for redis $((20000 + $$ % 10000)) no ;;
+        appends) start_redis_for appends $((30000 + $$ % 10000)) yes ;;
     esac
 }
 

@@ -11,7 +11,7 @@
 #include <stdlib.h>
 #include <time.h>
 
-enum { KEYS = 1000, KEY_LENGTH = 8, MOST_CONNECTIONS = 32, MOST_REQUESTS = 20000000, TIMEOUT = 10000, SHA_LENGTH = 40 };
+enum { KEYS = 1000, KEY_LENGTH = 8, MOST_CONNECTIONS = 64, MOST_REQUESTS = 20000000, TIMEOUT = 10000, SHA_LENGTH = 40 };
 
 struct operation {
     const char *name;

@@ -36,15 +36,6 @@ start_echo() {
     await ready "$work/echoing"
 }
 
-# Redis takes no free port by itself, so one is guessed.
-start_redis() {
-    redis_port=$((20000 + $$ % 10000))
-    redis-server --port $redis_port --bind 127.0.0.1 --save '' --appendonly no --dir "$work" --maxclients 20000 > "$work/redis" 2>&1 &
-    redis_process=$!
-    processes+=("$redis_process")
-    await "Ready to accept connections" "$work/redis"
-}
-
 # A side, an operation, a load and milliseconds: what redis_load prints.
 play() {
     local port=$mapd_port process=$mapd_process language=bpf
@@ -113,7 +104,7 @@ gcc -std=gnu99 -O2 -o "$work/load" bench/redis_load.c
 gcc -std=gnu99 -O2 -pthread -o "$work/echo" bench/echo.c
 before=$(load_now)
 start_mapd
-start_redis
+start_redis --maxclients 20000
 start_echo
 print_memory
 measure_all

@@ -29,16 +29,6 @@ start_mapd() {
     sides=(mapd,get mapd,put mapd,merge)
 }
 
-# Redis takes no free port by itself, so one is guessed.
-start_redis() {
-    redis_port=$((20000 + $$ % 10000))
-    redis-server --port $redis_port --bind 127.0.0.1 --save '' --appendonly no --dir "$work" > "$work/redis" 2>&1 &
-    redis_process=$!
-    processes+=("$redis_process")
-    await "Ready to accept connections" "$work/redis"
-    sides+=(redis,get redis,set redis,incrby redis,evalsha)
-}
-
 # A side, how many connections, how deep: a line behind those of the earlier rounds.
 measure() {
     local server=${1%,*} port process
@@ -93,6 +83,7 @@ before=$(load_now)
 start_mapd
 if command -v redis-server > /dev/null; then
     start_redis
+    sides+=(redis,get redis,set redis,incrby redis,evalsha)
 else
     echo "no redis-server here (Debian's package redis-server), so mapd stands alone"
 fi
