@@ -1,5 +1,5 @@
 -- What a query of the entries' table finds.
-use Rattle.std.proofs.Common.{◌≡◌, ◌∙◌, Bool, true, false, cond, List, [], ◌∷◌, ◌++◌, map, flat_map, refl, sym, ap, subst, inl, inr, IsPermutation}
+use Rattle.std.proofs.Common.{◌≡◌, ◌∙◌, ℕ, Bool, true, false, cond, List, [], ◌∷◌, ◌++◌, map, flat_map, refl, sym, ap, subst, inl, inr, IsPermutation}
 use Rattle.std.specs.List.{list_all}
 use Rattle.std.proofs.lemmas.List.Sorted.{IsPermutation-sym}
 use Rattle.sqlite_value.specs.declared.value.Value.TheVariants.{Null}
@@ -13,7 +13,7 @@ use Rattle.sqlite_rules.proofs.ListLemmas.{all_has, all_from, has_right}
 use Rattle.sqlite_rules.proofs.ProbeLemmas.{has_mapped, mapped_has}
 use Rattle.sqlite.specs.Effect.{Database, Answers}
 use Rattle.kept_file.proofs.StoredLemmas.{AreOf}
-use Rattle.kept_file.proofs.TextLemmas.{query_of, program_of}
+use Rattle.kept_file.proofs.TextLemmas.{query_in, query_of, program_of}
 
 has_matched : {X Y : Type 0} (p : X → Bool) (f : X → Y) (xs : List X) (y : Y) → Has (flat_map (λ x. cond (p x) (f x ∷ []) []) xs) y → (x : X) × Has xs x × (p x ≡ true) × (y ≡ f x)
 has_matched p f [] y h = absurd h
@@ -45,16 +45,16 @@ beside params row = params ∷ row ∷ []
 abbrev pub passing : List Term → Row → Row → Bool
 passing filter params row = list_all (holds (beside params row)) filter
 
-module _ (filter project : List Term) (db : Database) (params : Row) (found : List Row) where
-  pub shows_of : Answers db (program_of (query_of filter project)) params found
-      → ShowsOf (passing filter params) (λ row. eval_all project (beside params row)) (db.trees 4) found
-  shows_of answers =
-      let q = query_of filter project in
+module _ (tree : ℕ) (filter project : List Term) (db : Database) (params : Row) (found : List Row) where
+  pub shows_in : Answers db (program_of (query_in tree filter project)) params found
+      → ShowsOf (passing filter params) (λ row. eval_all project (beside params row)) (overlay db.trees [] tree) found
+  shows_in answers =
+      let q = query_in tree filter project in
       let test = passing filter params in
       let env = beside params in
-      let rows = db.trees 4 in
+      let rows = overlay db.trees [] tree in
       let answer : IsAnswer q (overlay db.trees []) params found = answers.answer Null in
-      let all = matches (overlay db.trees []) filter (inner 4 end) (params ∷ []) in
+      let all = matches (overlay db.trees []) filter (inner tree end) (params ∷ []) in
       let kept : answer.kept ≡ map (output q) all = answer.distinct ∙ ap (map (output q)) answer.grouped in
       record {
         sound = λ x h.
@@ -68,6 +68,11 @@ module _ (filter project : List Term) (db : Database) (params : Row) (found : Li
             subst (λ l. Has l (eval_all project (env r))) (sym answer.shown)
             (mapped_has (λ (k : Output). k.1) answer.ordered o (has_permuted answer.ordered answer.kept o (IsPermutation-sym _ _ answer.same) there));
       }
+
+-- .. of the entries
+pub shows_of : (filter project : List Term) (db : Database) (params : Row) (found : List Row) → Answers db (program_of (query_of filter project)) params found
+    → ShowsOf (passing filter params) (λ row. eval_all project (beside params row)) (db.trees 4) found
+shows_of = shows_in 4
 
 -- .. by their rowids
 pub rowids_of : (filter : List Term) (db : Database) (params : Row) (found : List Row) → Answers db (program_of (query_of filter (col 1 0 ∷ []))) params found

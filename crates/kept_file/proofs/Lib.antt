@@ -7,3 +7,5 @@ pub mod AnswerLemmas
 pub mod DeleteLemmas
 pub mod PutLemmas
 pub mod OtherLemmas
+pub mod ListedLemmas
+pub mod TablesLemmas

@@ -16,6 +16,8 @@ use Rattle.sqlite_tied.specs.Compute.{everything}
 use Rattle.kept_file.specs.declared.entries.TheConstants.{ENTRIES}
 use Rattle.kept_file.specs.declared.rows.TheConstants.{PROGRAMS, SCRIPTS}
 use Rattle.kept_file.specs.declared.query.TheConstants.{SETTING}
+use Rattle.kept_file.specs.declared.file.TheConstants.{COUNT_OBJECTS}
+use Rattle.kept_file.specs.declared.tables.TheConstants.{OBJECTS}
 
 abbrev Name : Type 0
 Name = List ℕ
@@ -116,3 +118,11 @@ query_plain schema text c plain =
       | true ↦ λ e. compiled_plain listing_schema text c plain (of_select (compiled listing_schema text) c e)
       | false ↦ λ e. compiled_plain schema text c plain e
     ]
+
+pub objects_query : is_plain (first OBJECTS.now) ≡ true
+unfolding everything
+objects_query = refl
+
+pub count_query : is_plain (first COUNT_OBJECTS.now) ≡ true
+unfolding everything
+count_query = refl

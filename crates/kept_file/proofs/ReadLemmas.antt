@@ -23,7 +23,9 @@ use Rattle.kept_file.specs.declared.rows.KeptProgram.{KeptProgram}
 use Rattle.kept_file.specs.declared.entries.TheConstants.{ENTRIES}
 use Rattle.kept_file.specs.declared.rows.TheConstants.{PROGRAMS, SCRIPTS}
 use Rattle.kept_file.specs.declared.query.TheConstants.{SETTING}
-use Rattle.kept_file.proofs.QueryLemmas.{query_plain, entries_query, programs_query, scripts_query, setting_query}
+use Rattle.kept_file.specs.declared.file.TheConstants.{COUNT_OBJECTS}
+use Rattle.kept_file.specs.declared.tables.TheConstants.{OBJECTS}
+use Rattle.kept_file.proofs.QueryLemmas.{query_plain, entries_query, programs_query, scripts_query, setting_query, objects_query, count_query}
 
 pub entries_read : OnlyReads ENTRIES.now
 entries_read schema c is = query_plain schema ENTRIES.now c entries_query is
@@ -162,3 +164,9 @@ module _ (start file : State) (same : IsUnchanged start file) where
 
   pub scripts_before : (texts : List (List ℕ)) → HasScripts file texts → HasScripts start texts
   scripts_before texts has = record { rows = has.rows; shown = (shown_of SCRIPTS.now [] start file file has.rows scripts_read same has.shown).0; texts_are = has.texts_are }
+
+pub objects_read : OnlyReads OBJECTS.now
+objects_read schema c is = query_plain schema OBJECTS.now c objects_query is
+
+pub count_read : OnlyReads COUNT_OBJECTS.now
+count_read schema c is = query_plain schema COUNT_OBJECTS.now c count_query is

@@ -10,6 +10,11 @@ pub four : (row : Row) (a b c d : Value) → length row ≡ 4 → column row 0 �
     → row ≡ a ∷ b ∷ c ∷ d ∷ []
 four row a b c d long first second third fourth = grind (arith, common_steps)
 
+-- .. one of five
+pub five : (row : Row) (a b c d e : Value) → length row ≡ 5 → column row 0 ≡ a → column row 1 ≡ b → column row 2 ≡ c → column row 3 ≡ d → column row 4 ≡ e
+    → row ≡ a ∷ b ∷ c ∷ d ∷ e ∷ []
+five row a b c d e long first second third fourth fifth = grind (arith, common_steps)
+
 -- and so is one of six
 pub six : (row : Row) (a b c d e f : Value) → length row ≡ 6 → column row 0 ≡ a → column row 1 ≡ b → column row 2 ≡ c → column row 3 ≡ d
     → column row 4 ≡ e → column row 5 ≡ f → row ≡ a ∷ b ∷ c ∷ d ∷ e ∷ f ∷ []

@@ -6,17 +6,30 @@ use Rattle.sqlite.specs.Term.{Term, lit, col, op2}
 use Rattle.sqlite.specs.Query.{Query, inner, end}
 use Rattle.sqlite.specs.Source.TheVariants.{Values}
 use Rattle.sqlite.specs.Command.TheVariants.{Insert, InsertOr, Delete, Select}
-use Rattle.sqlite.specs.Compile.{table_defined_by}
-use Rattle.sqlite.specs.Listing.{understood, reads_listing}
+use Rattle.sqlite.specs.Compile.{compiled, table_defined_by}
+use Rattle.sqlite.specs.Listing.{understood, reads_listing, if_select, listing_schema}
 use Rattle.sqlite.proofs.Callers.{IsPlain, command_of}
 use Rattle.sqlite_schema.specs.declared.command.Conflict.TheVariants.{Replace}
 use Rattle.sqlite_schema.specs.declared.program.Program.{Program}
 use Rattle.sqlite_sql.specs.declared.ops.BinaryOp.TheVariants.{Compare}
 use Rattle.sqlite_sql.specs.declared.ops.CompareOp.TheVariants.{Eq}
 use Rattle.sqlite_tied.specs.Compute.{everything}
-use Rattle.kept_file.specs.Tables.{kept_schema, entries_table}
+use Rattle.kept_file.specs.Tables.{kept_schema, settings_table, programs_table, scripts_table, entries_table}
 use Rattle.kept_file.specs.declared.entries.TheConstants.{ENTRIES}
+use Rattle.kept_file.specs.declared.tables.TheConstants.{OBJECTS}
 use Rattle.kept_file.specs.declared.schema.TheConstants as schema
+
+pub settings_made : table_defined_by schema.SETTINGS.now ≡ Ok (record settings_table { tree = 0 })
+unfolding everything
+settings_made = refl
+
+pub programs_made : table_defined_by schema.PROGRAMS.now ≡ Ok (record programs_table { tree = 0 })
+unfolding everything
+programs_made = refl
+
+pub scripts_made : table_defined_by schema.SCRIPTS.now ≡ Ok (record scripts_table { tree = 0 })
+unfolding everything
+scripts_made = refl
 
 pub entries_made : table_defined_by schema.ENTRIES.now ≡ Ok (record entries_table { tree = 0 })
 unfolding everything
@@ -29,10 +42,10 @@ put_terms = lit Null ∷ col 0 0 ∷ col 0 1 ∷ col 0 2 ∷ col 0 3 ∷ []
 abbrev pub is_column : ℕ → Term
 is_column at = op2 (Compare Eq Binary) (col 1 (at + 1)) (col 0 at)
 
--- the rows of the entries' table that pass, with these columns
-abbrev pub query_of : List Term → List Term → Query
-query_of filter project = record {
-  from = inner 4 end;
+-- the rows of a tree that pass, with these columns
+abbrev pub query_in : ℕ → List Term → List Term → Query
+query_in tree filter project = record {
+  from = inner tree end;
   filter = filter;
   group = None;
   project = project;
@@ -42,6 +55,10 @@ query_of filter project = record {
   limit = lit (Int (negsuc 0));
   offset = lit (Int (pos 0));
 }
+
+-- those of the entries' table
+abbrev pub query_of : List Term → List Term → Query
+query_of = query_in 4
 
 abbrev pub program_of : Query → Program
 program_of query = record { lets = []; body = query }
@@ -118,3 +135,17 @@ program_is = refl
 pub program_plain : IsPlain (understood kept_schema schema.PROGRAM.now)
 unfolding understood everything
 program_plain = (refl, refl)
+
+-- ---- the list of objects
+
+abbrev pub object_terms : List Term
+object_terms = col 1 0 ∷ col 1 1 ∷ col 1 2 ∷ col 1 3 ∷ col 1 5 ∷ []
+
+pub objects_is : command_of (if_select (compiled listing_schema OBJECTS.now))
+    ≡ Select (program_of (query_in 0 [] object_terms)) (codes "rowid" ∷ codes "type" ∷ codes "name" ∷ codes "tbl_name" ∷ codes "sql" ∷ [])
+unfolding everything listing_schema
+objects_is = refl
+
+pub objects_plain : IsPlain (if_select (compiled listing_schema OBJECTS.now))
+unfolding everything listing_schema
+objects_plain = (refl, refl)

@@ -3,15 +3,18 @@ use Rattle.std.specs.Prelude.{◌≡◌, ◌⊎◌, ℕ, List, [], ◌∷◌, Is
 use Rattle.std.specs.List.{AllByRecursion}
 use Rattle.sqlite.specs.Effect.{IsDatabase}
 use Rattle.sqlite.specs.Order.{Row, column}
-use Rattle.sqlite.specs.State.{State}
+use Rattle.sqlite.specs.Start.{FindsIn}
+use Rattle.sqlite.specs.State.{IsLive, Opens, State, Shown}
+use Rattle.sqlite_wal.specs.Recovery.{Image}
 use Rattle.sqlite.specs.Tree.{rowid, IsTable}
 use Rattle.sqlite.specs.View.{is_int}
 use Rattle.sqlite.specs.declared.types.Value.TheVariants.{Blob}
 use Rattle.sqlite_rules.specs.Lists.{Has}
 use Rattle.kept_file.specs.Reading.{row_of}
 use Rattle.kept_file.specs.Rows.{number}
-use Rattle.kept_file.specs.Tables.{kept_schema, entries_tree}
+use Rattle.kept_file.specs.Tables.{kept_objects, kept_schema, entries_tree}
 use Rattle.kept_file.specs.declared.entries.KeptEntry.{KeptEntry}
+use Rattle.kept_file.specs.declared.tables.TheConstants.{OBJECTS}
 
 -- the file has the tables that a new file is given, and obeys them; the rows of its entries are in the order of their numbers
 pub record HasTables (file : State) : Type 0 where
@@ -19,6 +22,17 @@ pub record HasTables (file : State) : Type 0 where
   pub sound : IsDatabase file.now
   pub ordered : IsTable (file.now.trees entries_tree)
   pub numbered : AllByRecursion (λ row. IsTrue (is_int (rowid row))) (file.now.trees entries_tree)
+
+-- its list of its objects is that of a new file
+abbrev pub ListsKept : State → Type 0
+ListsKept file = Shown OBJECTS.now [] file file kept_objects
+
+-- the database was just opened, over files that an opening found so
+pub record IsJustOpened (file : State) : Type 0 where
+  pub image : Image
+  pub found : FindsIn image file
+  pub opened : Opens file
+  pub live : IsLive file
 
 -- the stripe, the key, the value and the deadline of a stored row
 abbrev pub entry_in : Row → Row

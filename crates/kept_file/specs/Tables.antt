@@ -1,7 +1,9 @@
--- The tables of a file, as the database understands the texts that make them.
-use Rattle.std.specs.Prelude.{Bool, true, false, ℕ, List, [], ◌∷◌, ◌++◌, Option, Some, None, map, codes}
+-- The tables of a file, as the database understands the texts that make them, and as it lists them.
+use Rattle.std.specs.Prelude.{Bool, true, false, ℕ, pos, List, [], ◌∷◌, ◌++◌, Option, Some, None, map, codes}
 use Rattle.sqlite.specs.Collation.TheVariants.{Binary}
-use Rattle.sqlite.specs.declared.types.Value.TheVariants.{Null}
+use Rattle.sqlite.specs.Order.{Row}
+use Rattle.sqlite.specs.declared.types.Value.{Value}
+use Rattle.sqlite.specs.declared.types.Value.TheVariants.{Int, Null, Text as text}
 use Rattle.sqlite.specs.Kind.{Kind}
 use Rattle.sqlite.specs.Kind.TheVariants.{Integer, Text, Blob}
 use Rattle.sqlite.specs.Table.{Table}
@@ -9,6 +11,7 @@ use Rattle.sqlite.specs.Schema.{Schema}
 use Rattle.sqlite_schema.specs.declared.schema.Column.{Column}
 use Rattle.sqlite_schema.specs.declared.schema.Index.{Index}
 use Rattle.sqlite_value.specs.Keys.{plain}
+use Rattle.kept_file.specs.declared.schema.TheConstants as schema
 
 abbrev column_of : List ℕ → Kind → Bool → Column
 column_of name kind needed = record { name = name; kind = kind; is_strict = true; not_null = needed; default = Null; collation = Binary }
@@ -59,3 +62,21 @@ kept_schema = record {
   indexes = index_of (codes "settings_1") 1 0 (1 ∷ []) ∷ index_of (codes "entries_1") 5 4 (1 ∷ 2 ∷ []) ∷ [];
   views = [];
 }
+
+-- the row of an object in the list: its number there, its kind, its name, that of its table, and the text that makes it
+abbrev pub object_row : ℕ → List ℕ → List ℕ → List ℕ → Value → Row
+object_row at kind name table made_by = Int (pos at) ∷ text kind ∷ text name ∷ text table ∷ made_by ∷ []
+
+abbrev pub table_row : ℕ → List ℕ → List ℕ → Row
+table_row at name made_by = object_row at (codes "table") name name (text made_by)
+
+-- the index of a table's key, which no text makes
+abbrev pub key_name : List ℕ → List ℕ
+key_name table = codes "sqlite_autoindex_" ++ (table ++ codes "_1")
+
+abbrev pub key_row : ℕ → List ℕ → Row
+key_row at table = object_row at (codes "index") (key_name table) table Null
+
+abbrev pub kept_objects : List Row
+kept_objects = table_row 1 (codes "settings") schema.SETTINGS.now ∷ key_row 2 (codes "settings") ∷ table_row 3 (codes "programs") schema.PROGRAMS.now
+    ∷ table_row 4 (codes "scripts") schema.SCRIPTS.now ∷ table_row 5 (codes "entries") schema.ENTRIES.now ∷ key_row 6 (codes "entries") ∷ []

@@ -2,7 +2,9 @@
 ghost use Rattle.std.specs.Prelude.{◌≡◌, map, true, IfOk, OnOk};
 ghost use Rattle.std.specs.Borrow.{sem};
 ghost use Rattle.sqlite.specs.Held.{state};
+ghost use Rattle.sqlite.specs.Files.{file_state};
 ghost use Rattle.sqlite.specs.State.{HasCleanDisk, IsUnchanged, Survives};
+ghost use Rattle.kept_file.specs.Content.{HasTables, IsJustOpened, ListsKept};
 ghost use Rattle.kept_file.specs.Lending.{LendsConnection};
 ghost use Rattle.kept_file.specs.Reading.{HasPrograms, HasScripts};
 
@@ -12,15 +14,14 @@ use crate::fault::{KeepFault, read_fault, write_fault};
 use crate::query::{number_of, setting};
 use crate::rows::{self, KeptProgram};
 use crate::save::{Save, make_tables};
-use crate::schema::{self, FORMAT};
-use sqlite::{Alter, Connection, File, FileStore, Unknown, params};
+use crate::schema::FORMAT;
+use crate::tables::expect_kept_objects;
+use sqlite::{Alter, Connection, File, FileStore, Unknown};
 use std::alloc::Global;
 use std::fs;
 use std::io::Read;
 
-const COUNT_OBJECTS: &str = "SELECT count(*) FROM sqlite_schema";
-
-const COUNT_TEXTS: &str = "SELECT count(*) FROM sqlite_schema WHERE sql = ?1";
+pub(crate) const COUNT_OBJECTS: &str = "SELECT count(*) FROM sqlite_schema";
 
 /// The store of a file on the disk.
 pub type OnDisk = FileStore<File>;
@@ -46,7 +47,9 @@ fn begins_as_database(rt: &HostRuntime, path: &str) -> bool {
 }
 
 /// Opens the database at a path, or makes an empty one.
-fn connect(rt: &HostRuntime, path: &str) -> Result<Connection<OnDisk>, KeepFault> {
+fn connect(rt: &HostRuntime, path: &str) -> Result<Connection<OnDisk>, KeepFault>
+    ensures { IfOk result (λ conn. HasCleanDisk (file_state conn) → IsJustOpened (file_state conn)) }
+{
     match Connection::open_from(rt, path, true, Unknown) {
         Ok(conn) => Ok(conn),
         Err((error, _)) => match read_fault(error) {
@@ -60,30 +63,42 @@ impl KeptFile<OnDisk> {
     /// Opens the file at a path, and makes it if there is none, or if it is empty. The whole file is read and tested. A file that is
     /// refused stays as it is. `NotKept`, `Newer`, `Damaged` and `Busy` as they say; `Unreadable` if it cannot be opened or read,
     /// `Unwritable` or `Full` if a new one cannot be written, `NoMemory` if a request for memory is refused.
-    pub fn open(rt: &HostRuntime, path: &str) -> Result<KeptFile<OnDisk>, KeepFault> {
+    pub fn open(rt: &HostRuntime, path: &str) -> Result<KeptFile<OnDisk>, KeepFault>
+        ensures tables { IfOk result (λ file. HasCleanDisk (file_state file.conn) → HasTables (file_state file.conn)) }
+    {
         let mut file = KeptFile {
             conn: connect(rt, path)?,
         };
-        if file.has_no_tables()? {
-            file.make()?;
-        } else {
+        if !file.has_no_tables()? {
             file.check()?;
+            return Ok(file);
         }
-        Ok(file)
+        file.make()?;
+        file.close()?;
+        KeptFile::open_made(rt, path)
     }
 
-    /// Opens a file that is there, and makes none: `Unreadable` if there is none. The faults of `open` beside this one.
-    pub fn open_existing(rt: &HostRuntime, path: &str) -> Result<KeptFile<OnDisk>, KeepFault> {
-        match fs::metadata(rt, path) {
-            Ok(found) if found.len() == 0 => return Err(KeepFault::NotKept),
-            Ok(_) => {}
-            Err(_) => return Err(KeepFault::Unreadable),
-        }
+    /// Opens a database, and tests that it has the tables that `make` makes. The faults of `check` beside those of `connect`.
+    fn open_made(rt: &HostRuntime, path: &str) -> Result<KeptFile<OnDisk>, KeepFault>
+        ensures tables { IfOk result (λ file. HasCleanDisk (file_state file.conn) → HasTables (file_state file.conn)) }
+    {
         let mut file = KeptFile {
             conn: connect(rt, path)?,
         };
         file.check()?;
         Ok(file)
+    }
+
+    /// Opens a file that is there, and makes none: `Unreadable` if there is none. The faults of `open` beside this one.
+    pub fn open_existing(rt: &HostRuntime, path: &str) -> Result<KeptFile<OnDisk>, KeepFault>
+        ensures tables { IfOk result (λ file. HasCleanDisk (file_state file.conn) → HasTables (file_state file.conn)) }
+    {
+        match fs::metadata(rt, path) {
+            Ok(found) if found.len() == 0 => return Err(KeepFault::NotKept),
+            Ok(_) => {}
+            Err(_) => return Err(KeepFault::Unreadable),
+        }
+        KeptFile::open_made(rt, path)
     }
 
     /// Closes the file, which then has all that was saved: the log beside it can be left behind. If this fails, the two together
@@ -96,9 +111,14 @@ impl KeptFile<OnDisk> {
 
 impl<S: Alter> KeptFile<S> {
     /// Tells whether the database has no tables.
-    fn has_no_tables(&mut self) -> Result<bool, KeepFault> {
-        let objects = number_of(&mut self.conn, COUNT_OBJECTS, &[]).map_err(read_fault)?;
-        Ok(objects == Some(0))
+    fn has_no_tables(&mut self) -> Result<bool, KeepFault>
+        ensures same { HasCleanDisk (state S.Store self.new.conn) → OnOk result (IsUnchanged (state S.Store self.old.conn) (state S.Store self.new.conn)) }
+        ensures kept { Survives (state S.Store self.old.conn) (state S.Store self.new.conn) (λ _. ⊥) }
+    {
+        match number_of(&mut self.conn, COUNT_OBJECTS, &[]) {
+            Ok(objects) => Ok(objects == Some(0)),
+            Err(error) => Err(read_fault(error)),
+        }
     }
 
     /// Makes the tables, in one transaction.
@@ -109,32 +129,18 @@ impl<S: Alter> KeptFile<S> {
     }
 
     /// Tests whether the database has the tables that `make` makes. `Newer` if a later server made it; else `NotKept`.
-    fn check(&mut self) -> Result<(), KeepFault> {
+    fn check(&mut self) -> Result<(), KeepFault>
+        ensures lists { HasCleanDisk (state S.Store self.new.conn) → OnOk result (ListsKept (state S.Store self.old.conn)) }
+        ensures same { HasCleanDisk (state S.Store self.new.conn) → OnOk result (IsUnchanged (state S.Store self.old.conn) (state S.Store self.new.conn)) }
+        ensures kept { Survives (state S.Store self.old.conn) (state S.Store self.new.conn) (λ _. ⊥) }
+    {
         match setting(&mut self.conn, "format") {
-            Ok(FORMAT) => {}
-            Ok(format) if format > FORMAT => return Err(KeepFault::Newer { format }),
-            Err(KeepFault::NoMemory) => return Err(KeepFault::NoMemory),
-            Err(KeepFault::Unreadable) => return Err(KeepFault::Unreadable),
-            _ => return Err(KeepFault::NotKept),
+            Ok(FORMAT) => expect_kept_objects(&mut self.conn),
+            Ok(format) if format > FORMAT => Err(KeepFault::Newer { format }),
+            Err(KeepFault::NoMemory) => Err(KeepFault::NoMemory),
+            Err(KeepFault::Unreadable) => Err(KeepFault::Unreadable),
+            _ => Err(KeepFault::NotKept),
         }
-        let objects = number_of(&mut self.conn, COUNT_OBJECTS, &[]).map_err(read_fault)?;
-        let known = self.known_tables()?;
-        if objects == Some(schema::OBJECTS) && known {
-            Ok(())
-        } else {
-            Err(KeepFault::NotKept)
-        }
-    }
-
-    /// Tells whether each table is there, by its text.
-    fn known_tables(&mut self) -> Result<bool, KeepFault> {
-        for text in schema::TABLES {
-            let found = number_of(&mut self.conn, COUNT_TEXTS, params![text]).map_err(read_fault)?;
-            if found != Some(1) {
-                return Ok(false);
-            }
-        }
-        Ok(true)
     }
 
     /// Returns how many stripes the map had that was saved last, and 0 if none was saved yet.

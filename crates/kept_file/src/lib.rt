@@ -14,6 +14,7 @@ mod query;
 mod rows;
 pub mod save;
 mod schema;
+mod tables;
 
 pub use counts::EntryCounts;
 pub use entries::{Entries, KeptEntry};

@@ -67,7 +67,7 @@ fn program_of(alloc: Global, row: &Row) -> Result<KeptProgram, KeepFault>
 }
 
 /// Returns all rows that a query shows.
-fn all_rows<S: Alter>(conn: &mut Connection<S>, sql: &str) -> Result<Vec<Row>, KeepFault>
+pub(crate) fn all_rows<S: Alter>(conn: &mut Connection<S>, sql: &str) -> Result<Vec<Row>, KeepFault>
     requires { OnlyReads sql.now }
     ensures all { HasCleanDisk (state S.Store conn.new) → IfOk result (λ rows. Shown sql.now [] (state S.Store conn.old) (state S.Store conn.old) rows.items) }
     ensures same { HasCleanDisk (state S.Store conn.new) → OnOk result (IsUnchanged (state S.Store conn.old) (state S.Store conn.new)) }

@@ -3,22 +3,19 @@
 /// The format that this crate writes and reads.
 pub const FORMAT: u64 = 1;
 
-/// How many objects a file has: four tables, and the indexes of two keys.
-pub(crate) const OBJECTS: u64 = 6;
-
 /// The texts that make a file's tables, and by which a file is known.
 pub(crate) const TABLES: [&str; 4] = [SETTINGS, PROGRAMS, SCRIPTS, ENTRIES];
 
-const SETTINGS: &str =
+pub(crate) const SETTINGS: &str =
     "CREATE TABLE settings (name TEXT NOT NULL PRIMARY KEY, value INTEGER NOT NULL) STRICT";
 
-const PROGRAMS: &str =
+pub(crate) const PROGRAMS: &str =
     "CREATE TABLE programs (number INTEGER PRIMARY KEY, key_size INTEGER NOT NULL, old_size INTEGER NOT NULL, arg_size INTEGER NOT NULL, result_size INTEGER NOT NULL, bytes BLOB NOT NULL) STRICT";
 
-const SCRIPTS: &str =
+pub(crate) const SCRIPTS: &str =
     "CREATE TABLE scripts (number INTEGER PRIMARY KEY, text BLOB NOT NULL) STRICT";
 
-const ENTRIES: &str =
+pub(crate) const ENTRIES: &str =
     "CREATE TABLE entries (stripe INTEGER NOT NULL, key BLOB NOT NULL, value BLOB NOT NULL, deadline INTEGER, PRIMARY KEY (stripe, key)) STRICT";
 
 /// Sets a setting: its name and its number.

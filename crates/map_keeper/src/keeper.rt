@@ -4,6 +4,7 @@ ghost use Rattle.stripe_rule.specs.Gains.{seen_of};
 ghost use Rattle.bin_stripes.specs.Passes.{ServesSameMap, stripes_of};
 ghost use Rattle.sqlite.specs.Held.{state};
 ghost use Rattle.sqlite.specs.State.{HasCleanDisk, Survives};
+ghost use Rattle.kept_file.specs.Content.{HasTables};
 ghost use Rattle.map_keeper.specs.Kept.{HasContent, IsInStep, OnlySaves};
 ghost use Rattle.map_keeper.specs.Saves.{IsWhole, MadeOnlySaves};
 ghost use Rattle.map_keeper.specs.Written.{IsSavedSince, SavesMap, WouldSave};
@@ -59,6 +60,8 @@ impl<S: Alter + Drop> Keeper<S> {
     pub fn new(alloc: Global, file: KeptFile<S>, pass: Pass) -> Result<Keeper<S>, RestoreFault>
         ensures pass { IfOk result (λ keeper. keeper.taker.pass ≡ pass) }
         ensures anew { IfOk result (λ keeper. keeper.takes_anew ≡ true) }
+        ensures tables { IfOk result (λ keeper. HasCleanDisk (state S.Store keeper.file.conn)
+            → (HasCleanDisk (state S.Store file.conn) → HasTables (state S.Store file.conn)) → HasTables (state S.Store keeper.file.conn)) }
     {
         let mut file = file;
         let stripes = file.stripes()?;
