@@ -1,5 +1,5 @@
 -- A file's list of its objects is read whatever tables it has, and shows each object.
-use Rattle.std.proofs.Common.{◌≡◌, ◌∙◌, ◌⊎◌, ℕ, ◌+◌, negsuc, Bool, true, false, ◌&&◌, List, [], ◌∷◌, ◌++◌, map, codes, Option, None, Some, Result, Ok, Err, refl, sym, ap, subst, inl, inr, Less}
+use Rattle.std.proofs.Common.{◌≡◌, ◌∙◌, ℕ, ◌+◌, negsuc, Bool, true, false, ◌&&◌, List, [], ◌∷◌, ◌++◌, map, codes, None, Result, Ok, Err, refl, sym, ap, subst, inl, inr, Less}
 use Rattle.std.specs.List.{AllByRecursion, position_from}
 use Rattle.std.proofs.lemmas.Bool.{and_parts, not-true}
 use Rattle.std.proofs.lemmas.List.{append_assoc, append-nil}
@@ -33,13 +33,12 @@ use Rattle.sqlite_ast.specs.declared.Statement.{Statement}
 use Rattle.sqlite_ast.specs.declared.Statement.TheVariants as written
 use Rattle.sqlite_syntax.specs.declared.statement.Parsed.{Parsed}
 use Rattle.sqlite_sql.specs.Term.{Term, lit, eval_all}
-use Rattle.sqlite_value.specs.declared.value.Value.TheVariants.{Int, Null, Text}
+use Rattle.sqlite_value.specs.declared.value.Value.TheVariants.{Int, Text}
 use Rattle.sqlite_resolve.specs.Terms.{number}
-use Rattle.sqlite_resolve.specs.declared.compiled.Compiled.{Compiled}
 use Rattle.sqlite_resolve.specs.declared.error.CompileError.{CompileError}
 use Rattle.sqlite_resolve.specs.declared.error.CompileError.TheVariants.{NoSuchTable}
-use Rattle.sqlite_resolve.specs.Lowering.{and_then, take_slot}
-use Rattle.sqlite_resolve.specs.Compile.{compiled, command, first, meaning, planned, read, returning, timed, small}
+use Rattle.sqlite_resolve.specs.Lowering.{take_slot}
+use Rattle.sqlite_resolve.specs.Compile.{compiled, command, first, meaning, planned, read, returning, timed}
 use Rattle.sqlite_resolve.specs.Body.{table_in, bound, bounds, body}
 use Rattle.sqlite_resolve.specs.Select.{named, parts, paging, constant_or}
 use Rattle.sqlite_resolve.specs.Program.{query, query_to, level, whole, alone, single, sources, source, viewing, with}

@@ -1,5 +1,5 @@
 -- A database that lists just the objects of a new file has the tables of one.
-use Rattle.std.proofs.Common.{◌≡◌, ◌≢◌, ◌∙◌, ◌⊎◌, ℕ, zero, suc, slice_get, ◌+◌, ◌-◌, ◌<◌, pos, Bool, true, false, not, List, [], ◌∷◌, ◌++◌, map, filter, codes, Option, None, Some, Result, Ok, Err, OnOk, MatchBool, IsSome, IfSome, IsTrue, refl, sym, ap, ap₂, subst, subst₂, inl, inr, Ordering, Less, Equal, Greater, arith, IsUtf8}
+use Rattle.std.proofs.Common.{◌≡◌, ◌∙◌, ◌⊎◌, ℕ, zero, suc, slice_get, ◌+◌, ◌<◌, pos, Bool, true, false, not, List, [], ◌∷◌, map, filter, codes, Option, None, Some, Result, Ok, Err, OnOk, MatchBool, IsSome, IfSome, IsTrue, refl, sym, ap, ap₂, subst, subst₂, inl, inr, Less, arith, IsUtf8}
 use Rattle.std.specs.List.{AllByRecursion, AllZip}
 use Rattle.std.proofs.lemmas.Bool.{and_parts, and_from, and_left, or_parts, cases_Bool}
 use Rattle.std.specs.Str.{bytes_eq}
@@ -23,17 +23,16 @@ use Rattle.sqlite_trees.specs.View.{IsOrdered, IsShaped, is_int}
 use Rattle.sqlite.specs.Order.{Row, column}
 use Rattle.sqlite.specs.Schema.{Schema}
 use Rattle.sqlite.specs.Compile.{table_defined_by}
-use Rattle.sqlite_value.specs.declared.value.Value.{Value}
 use Rattle.sqlite_value.specs.declared.value.Value.TheVariants.{Int, Null, Text}
 use Rattle.sqlite_value.specs.Order.{value_cmp}
-use Rattle.sqlite_value.proofs.OrderLemmas.{value_cmp_total, value_cmp-Int}
+use Rattle.sqlite_value.proofs.OrderLemmas.{value_cmp_total}
 use Rattle.sqlite_trees.specs.Objects.{catalog_tree}
 use Rattle.sqlite_trees.specs.Tree.{Trees, IsTable, rowid}
 use Rattle.sqlite_schema.specs.Names.{same_name}
 use Rattle.sqlite_schema.specs.declared.schema.Index.{Index}
 use Rattle.sqlite_schema.specs.declared.schema.Table.{Table}
 use Rattle.sqlite_schema.specs.declared.schema.View.{View as Stored}
-use Rattle.sqlite_catalog.specs.Listing.{AreListed, IsTableRow, IsIndexRow, IsViewRow, IsAside, IsForeign, IsReadable, IsOwned, IsDefined, is_binder_of, automatic, is_table_row, is_view_row, is_index_row, is_foreign_row, is_formed}
+use Rattle.sqlite_catalog.specs.Listing.{AreListed, IsTableRow, IsIndexRow, IsViewRow, IsAside, IsReadable, IsOwned, IsDefined, is_binder_of, automatic, is_table_row, is_view_row, is_index_row, is_formed}
 use Rattle.sqlite_catalog.proofs.LayoutLemmas.{zipped_left, zipped_right, table_shape}
 use Rattle.sqlite_rules.specs.Lists.{Has}
 use Rattle.sqlite_rules.proofs.ListLemmas.{all_has, all_from, has_filtered, has_kept}

@@ -1,5 +1,4 @@
 use Rattle.kept_file.proofs.ReadLemmas.{objects_read}
-use Rattle.kept_file.proofs.TablesLemmas.{tables_still}
 use Rattle.kept_file.proofs.tables.expect_kept_objects.Goals as goal
 
 pub all_rows-requires : goal.all_rows-requires
