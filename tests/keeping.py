@@ -351,6 +351,7 @@ def damaged(given: argparse.Namespace, folder: Path) -> None:
     make_saved(given, file, known)
     seen = {key: [state] for key, state in SAVED.items()}
     other_files(given, file, folder, seen, known)
+    like_ours(file, folder, given)
     with_log = folder / "with a log.db"
     for part in (file, log_of(file)):
         if part.exists():
@@ -388,6 +389,29 @@ def other_files(given: argparse.Namespace, file: Path, folder: Path, seen: dict[
     empty.touch()
     same("an empty file is taken", serves_truly(given, empty, {}, Known()), True)
     same("the file itself is taken", serves_truly(given, file, seen, known), True)
+
+
+# What sqlite3 adds to a file that has our tables, and what it changes in their texts.
+ADDED = ["create index more on entries (value)", "create view more as select key from entries", "create table more (x)",
+         "create trigger more after delete on entries begin delete from settings; end"]
+CHANGED = [(") STRICT", ") strict"), ("deadline INTEGER", "deadline INTEGER CHECK (deadline > 0)")]
+
+
+def like_ours(file: Path, folder: Path, given: argparse.Namespace) -> None:
+    """Files that sqlite3 makes: one with just our tables is taken, and one with anything more or other in its list of objects is refused."""
+    own = folder / "made by sqlite3"
+    with contextlib.closing(sqlite3.connect(copied(file, own))) as data:
+        texts = [text for text, in data.execute("select sql from sqlite_schema where sql is not null order by rowid")]
+    lists = [texts, texts[::-1], texts[1:], *(texts + [more] for more in ADDED)]
+    lists += [[text.replace(*change) for text in texts] for change in CHANGED]
+    for number, made in enumerate(lists):
+        name = own / f"{number}.db"
+        with contextlib.closing(sqlite3.connect(name)) as data, data:
+            for text in made:
+                data.execute(text)
+            if any("TABLE settings" in text for text in made):
+                data.execute("insert into settings (name, value) values ('format', 1), ('stripes', 1)")
+        same(f"a file made by {made} is taken", serves_truly(given, name, {}, Known()), made == texts)
 
 
 @contextlib.contextmanager
