@@ -1,6 +1,5 @@
 -- What `mapd` serves, as its words ask for it.
-use Rattle.std.specs.Prelude.{◌≡◌, ℕ, ◌+◌, ◌*◌, List, All, IfSome, Option, None, Some, String, if◌then◌else◌, is_some, map, string_bytes, vec_len}
-use Rattle.core.specs.Option.{option_map}
+use Rattle.std.specs.Prelude.{◌≡◌, ℕ, ◌+◌, ◌*◌, List, All, IfSome, Option, None, Some, String, if◌then◌else◌, is_some, map, string_bytes, vec_len, option_map}
 use Rattle.mio.specs.declared.net.listener.TcpListener.{TcpListener}
 use Rattle.stripe_rule.specs.Rule.{from_on}
 use Rattle.bin_stripes.specs.Passes.{stripes_of}

@@ -1,6 +1,5 @@
 //! Keeping the map in a file: it is restored before clients are served, and saved while they are.
-ghost use Rattle.std.specs.Prelude.{◌≡◌, true, Some, None, if◌then◌else◌, IfOk, IfErr, IfSome, is_some};
-ghost use Rattle.core.specs.Option.{option_map};
+ghost use Rattle.std.specs.Prelude.{◌≡◌, true, Some, None, if◌then◌else◌, IfOk, IfErr, IfSome, is_some, option_map};
 ghost use Rattle.std.specs.Option.{ForSome};
 ghost use Rattle.map_keeper.specs.Keepers.{pass_of};
 

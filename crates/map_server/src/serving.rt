@@ -1,6 +1,5 @@
 //! Serving, from the first client until each worker has ended. Nothing else makes a `Served`.
-ghost use Rattle.std.specs.Prelude.{◌≡◌, true, false, IfOk, IsErr, IsOk};
-ghost use Rattle.core.specs.Option.{option_map};
+ghost use Rattle.std.specs.Prelude.{◌≡◌, true, false, IfOk, IsErr, IsOk, option_map};
 ghost use Rattle.map_server.specs.Servers.{AreTerms, CanServe, HasServed};
 ghost use Rattle.map_server.specs.ServerRuns.{HaveAttended};
 
