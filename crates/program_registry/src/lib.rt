@@ -11,5 +11,6 @@ mod known;
 mod registry;
 mod sent;
 
+pub use known::Bounds;
 pub use registry::{ProgramToken, Registry};
 pub use sent::{Digest, SentProgram};

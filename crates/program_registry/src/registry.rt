@@ -1,10 +1,10 @@
 //! The registry, and the tokens that it gives for programs.
-ghost use Rattle.std.specs.Prelude.{◌≡◌, IfSome, IsSomeAnd, IfOk, IfErr};
+ghost use Rattle.std.specs.Prelude.{◌≡◌, ◌+◌, IfSome, IsSomeAnd, IfOk, IfErr};
 ghost use Rattle.bpf_model.specs.Meaning.{IsSafe};
 ghost use Rattle.program_registry.specs.Sent.{IsSentAs};
 ghost use Rattle.program_registry.specs.Tokens.{IsOf, program_of, token_number};
 
-use crate::known::Known;
+use crate::known::{Bounds, Known};
 use crate::sent::SentProgram;
 use boxcar::{Pushed, Vec};
 use bpf_model::NoMemory;
@@ -14,6 +14,9 @@ use verifier::Verified;
 
 /// An instruction takes 16 bytes, and so does the operation that it was verified to be.
 const INSTRUCTION_BYTES: u64 = 32;
+
+/// What a program takes beside its instructions, about: its place, its digest, and what the allocator adds.
+const PROGRAM_BYTES: u64 = 256;
 
 /// Registered programs, each with a number: the first has 0, the next 1.
 #[derive(Drop)]
@@ -28,21 +31,29 @@ pub struct ProgramToken {
     place: Pushed<Verified>,
 }
 
+/// Returns how many bytes a program takes, about, with its operations.
+fn bytes_of(verified: &Verified) -> u64 {
+    let instructions = verified.program().instructions().len() as u64;
+    instructions
+        .saturating_mul(INSTRUCTION_BYTES)
+        .saturating_add(PROGRAM_BYTES)
+}
+
 impl Registry {
     /// Makes an empty registry. `NoMemory` if a request for memory is refused.
     pub fn new(alloc: Global) -> Result<Registry, NoMemory> {
-        Registry::bounded(alloc, usize::MAX)
+        Registry::bounded(alloc, Bounds::NONE)
     }
 
-    /// Makes an empty registry that takes at most `most` programs. `NoMemory` if a request for memory is refused.
-    pub fn bounded(alloc: Global, most: usize) -> Result<Registry, NoMemory> {
+    /// Makes an empty registry that keeps to these bounds. `NoMemory` if a request for memory is refused.
+    pub fn bounded(alloc: Global, bounds: Bounds) -> Result<Registry, NoMemory> {
         Ok(Registry {
             programs: Vec::new(alloc)?,
-            known: Mutex::new(Known::new(alloc, most)),
+            known: Mutex::new(Known::new(alloc, bounds)),
         })
     }
 
-    /// Keeps the program and counts it. `NoMemory` if a request for memory is refused, or if the registry is full; the
+    /// Keeps the program and counts it. `NoMemory` if a request for memory is refused, or if the bounds leave no room for it; the
     /// program comes back.
     fn keep<R: Wait>(
         &self,
@@ -52,21 +63,22 @@ impl Registry {
     ) -> Result<ProgramToken, (NoMemory, Verified)>
         ensures ok { IfOk result (λ token. IsOf self.now token × (program_of token ≡ verified)) }
         ensures err { IfErr result (λ refused. refused.1 ≡ verified) }
+        ensures counted { IfOk result (λ _. known.new.taken.programs ≡ known.old.taken.programs + 1) }
     {
-        if known.is_full() {
+        let Some(taken) = known.with(1, bytes_of(&verified)) else {
             return Err((NoMemory, verified));
-        }
+        };
         match self.programs.push_shown(rt, verified) {
             Ok(place) => {
-                known.count_one();
+                known.take(taken);
                 Ok(ProgramToken { place })
             }
             Err(verified) => Err((NoMemory, verified)),
         }
     }
 
-    /// Gives the program the next number and keeps it. `NoMemory` if a request for memory is refused or the registry is full;
-    /// the program comes back. Waits while another thread registers a program.
+    /// Gives the program the next number and keeps it. `NoMemory` if a request for memory is refused or the bounds leave no room for
+    /// it; the program comes back. Waits while another thread registers a program.
     pub fn register<R: Wait>(
         &self,
         rt: &R,
@@ -148,16 +160,26 @@ impl Registry {
         Some(program)
     }
 
-    /// Returns how many bytes the instructions of its programs take, with what they were verified to do. Looks at each program.
-    /// Takes no memory. Never waits.
-    pub fn bytes(&self) -> u64 {
-        let mut instructions = 0_u64;
-        let programs = self.programs.iter();
-        for (_, program) in programs {
-            let more = program.program().instructions().len() as u64;
-            instructions = instructions.saturating_add(more);
-        }
-        instructions.saturating_mul(INSTRUCTION_BYTES)
+    /// Takes this many bytes for a text that is kept beside the programs. `NoMemory` if the bounds leave no room for them. Takes no
+    /// memory. Waits while another thread registers a program.
+    pub fn take_bytes<R: Wait>(&self, rt: &R, bytes: u64) -> Result<(), NoMemory> {
+        let mut known = self.known.lock(rt);
+        let Some(taken) = known.with(0, bytes) else {
+            return Err(NoMemory);
+        };
+        known.take(taken);
+        Ok(())
+    }
+
+    /// Gives back this many bytes of those that `take_bytes` took. Waits as it does.
+    pub fn give_back<R: Wait>(&self, rt: &R, bytes: u64) {
+        self.known.lock(rt).give_back(bytes);
+    }
+
+    /// Returns how many bytes its programs take, about, and the texts beside them. Takes no memory. Waits while another thread
+    /// registers a program.
+    pub fn bytes<R: Wait>(&self, rt: &R) -> u64 {
+        self.known.lock(rt).bytes()
     }
 
     /// Looks up a number if you have a token of it: you get its program, never `None`. Takes no memory. Never waits.
