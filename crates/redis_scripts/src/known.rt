@@ -83,18 +83,18 @@ impl<'a> Known<'a> {
         }
     }
 
-    /// Notes the script of this text, unless its digest is noted. `NoMemory` if a request for memory is refused, or if there are as
-    /// many scripts as there may be.
+    /// Notes the script of this text, unless its digest is noted. Returns whether its text is kept now. `NoMemory` if a request for
+    /// memory is refused, or if there are as many scripts as there may be.
     pub(crate) fn note(
         &mut self,
         alloc: Global,
         script: Script<'a>,
         text: &[u8],
-    ) -> Result<(), NoMemory>
+    ) -> Result<bool, NoMemory>
         requires { IsText text.now script.method script.reply script.with_now script.program.now }
     {
         if self.places.contains_key(&script.digest) {
-            return Ok(());
+            return Ok(false);
         }
         let place = self.scripts.len();
         if place >= self.most {
@@ -104,7 +104,7 @@ impl<'a> Known<'a> {
         self.scripts.reserve(1)?;
         self.places.insert(script.digest, place)?;
         self.scripts.push_reserved(Noted { script, text });
-        Ok(())
+        Ok(true)
     }
 
     /// Returns copies of the texts of the scripts after the first `count`, in the order in which they were noted. `NoMemory` if a

@@ -31,6 +31,9 @@ pub struct Scripts<'a> {
 /// The number with which a refusal of memory is admitted or verified.
 const NO_MEMORY: u8 = 9;
 
+/// What a script takes beside its text, about: its entry, its digest, and what the allocator adds.
+const SCRIPT_BYTES: u64 = 192;
+
 /// Returns the refusal of a program as the fault of its script.
 fn fault_of(fault: AdmissionFault) -> ScriptFault
     ensures { (result ≡ ScriptFault.NoMemory) ⊎ (result ≡ ScriptFault.Admission fault) }
@@ -123,10 +126,31 @@ impl<'a> Scripts<'a> {
         })
     }
 
+    /// Notes the script of this text, whose bytes count among those of the registry. `NoMemory` if a request for memory is refused,
+    /// or the bounds leave no room for it.
+    fn note<R: Wait>(
+        &self,
+        rt: &R,
+        alloc: Global,
+        script: Script<'a>,
+        text: &[u8],
+    ) -> Result<(), NoMemory>
+        requires { IsText text.now script.method script.reply script.with_now script.program.now }
+    {
+        let bytes = SCRIPT_BYTES.saturating_add(text.len() as u64);
+        self.registry.take_bytes(rt, bytes)?;
+        let noted = self.known.lock(rt).note(alloc, script, text);
+        if !matches!(noted, Ok(true)) {
+            self.registry.give_back(rt, bytes);
+        }
+        noted?;
+        Ok(())
+    }
+
     /// Returns the script of this text, which clients can then call by its digest. A text that is known takes no memory. A new one is
     /// read, its program verified and registered, and its text kept. Returns its first fault if it has one. Returns `NoMemory` if
-    /// a request for memory is refused, or if there are as many scripts or programs as there may be; its program may be registered
-    /// then. Waits while another thread loads or looks up a script.
+    /// a request for memory is refused, if there are as many scripts as there may be, or if the registry's bounds leave no room for
+    /// its program or its text; its program may be registered then. Waits while another thread loads or looks up a script.
     pub fn load<R: Wait>(
         &self,
         rt: &R,
@@ -142,7 +166,7 @@ impl<'a> Scripts<'a> {
             return Ok(script);
         }
         let script = self.made(rt, alloc, digest, text)?;
-        self.known.lock(rt).note(alloc, script, text)?;
+        self.note(rt, alloc, script, text)?;
         Ok(script)
     }
 
