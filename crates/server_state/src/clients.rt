@@ -102,14 +102,14 @@ impl ClientPulse {
 
     /// The client was served at this time, and asked for this last, if it isn't 0.
     pub fn beat(&self, heard: u64, command: u64) {
-        self.heard.store(heard, Ordering::SeqCst);
+        self.heard.store(heard, Ordering::Relaxed);
         self.asks(command);
     }
 
     /// The client asks for this, if it isn't 0.
     fn asks(&self, command: u64) {
         if command != 0 {
-            self.command.store(command, Ordering::SeqCst);
+            self.command.store(command, Ordering::Relaxed);
         }
     }
 
@@ -142,8 +142,8 @@ impl Row {
             library: client_text(view.library.as_slice()),
             version: client_text(view.version.as_slice()),
             came: view.came,
-            heard: self.pulse.heard.load(Ordering::SeqCst),
-            command: self.pulse.command.load(Ordering::SeqCst),
+            heard: self.pulse.heard.load(Ordering::Relaxed),
+            command: self.pulse.command.load(Ordering::Relaxed),
         }
     }
 

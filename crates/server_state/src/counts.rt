@@ -62,7 +62,7 @@ impl Counts {
     }
 }
 
-/// A number that one thread counts up, and others read.
+/// A number that one thread counts up, and others read. If two threads counted, one might not be counted.
 #[derive(Drop)]
 struct Counter {
     number: AtomicU64,
@@ -79,12 +79,14 @@ impl Counter {
     /// Counts this many more.
     #[inline(always)]
     fn add(&self, more: u64) {
-        self.number.fetch_add(more, Ordering::SeqCst);
+        let number = self.number.load(Ordering::Relaxed);
+        self.number
+            .store(number.wrapping_add(more), Ordering::Relaxed);
     }
 
     /// Returns the number.
     fn number(&self) -> u64 {
-        self.number.load(Ordering::SeqCst)
+        self.number.load(Ordering::Relaxed)
     }
 }
 
@@ -233,14 +235,20 @@ impl WorkerCounts {
         }
     }
 
+    /// Returns how many bytes are kept for this worker's clients.
+    #[inline(always)]
+    pub(crate) fn session_bytes(&self) -> u64 {
+        self.session_bytes.number()
+    }
+
     /// A turn of commands ended, of which the last one that has a name asked for this, by a number of the one who notes it; 0: none has.
     pub fn note_command(&self, command: u64) {
-        self.last_command.store(command, Ordering::SeqCst);
+        self.last_command.store(command, Ordering::Relaxed);
     }
 
     /// Returns what was noted last.
     pub fn last_command(&self) -> u64 {
-        self.last_command.load(Ordering::SeqCst)
+        self.last_command.load(Ordering::Relaxed)
     }
 
     /// Returns how many commands of this kind came.
@@ -283,6 +291,15 @@ pub(crate) fn sum(all: &[WorkerCounts]) -> Counts {
         counts = counts.plus(one.so_far());
     }
     counts
+}
+
+/// Returns how many bytes are kept for the clients of all of them.
+pub(crate) fn session_bytes_of(all: &[WorkerCounts]) -> u64 {
+    let mut bytes = 0_u64;
+    for one in all {
+        bytes = bytes.wrapping_add(one.session_bytes());
+    }
+    bytes
 }
 
 /// Returns how many commands of this kind came to all of them.

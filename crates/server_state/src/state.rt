@@ -3,7 +3,9 @@ ghost use Rattle.std.specs.Prelude.{◌≡◌, IfOk, None};
 ghost use Rattle.server_state.specs.Passwords.{lent};
 
 use crate::clients::ServerClients;
-use crate::counts::{Counts, WorkerCounts, commands_of, refused_of, requests_of, sum};
+use crate::counts::{
+    Counts, WorkerCounts, commands_of, refused_of, requests_of, session_bytes_of, sum,
+};
 use crate::password::Password;
 use crate::saves::{SaveFate, Saves};
 use crate::slowlog::SlowLog;
@@ -27,6 +29,8 @@ pub struct ServerState {
     password: Option<Password>,
     clients: ServerClients,
     slow: SlowLog,
+    /// What may be kept for clients before those that need most are let go.
+    session_bytes: u64,
 }
 
 /// What one worker knows of its server, and where it counts.
@@ -67,6 +71,7 @@ impl ServerState {
             password: None,
             clients: ServerClients::new(alloc, workers)?,
             slow: SlowLog::off(alloc),
+            session_bytes: u64::MAX,
         })
     }
 
@@ -86,6 +91,33 @@ impl ServerState {
         ensures began { result.began ≡ self.began }
     {
         ServerState { slow, ..self }
+    }
+
+    /// The same server, whose clients are crowded if more than this many bytes are kept for them.
+    pub fn with_session_bytes(self, session_bytes: u64) -> ServerState
+        ensures bytes { result.session_bytes ≡ session_bytes }
+        ensures password { result.password ≡ self.password }
+        ensures keeps { result.keeps ≡ self.keeps }
+        ensures began { result.began ≡ self.began }
+    {
+        ServerState {
+            session_bytes,
+            ..self
+        }
+    }
+
+    /// Tests whether more bytes are kept for clients than may be. Those of the others count only if this worker has more than its
+    /// share: so a worker rarely looks at their counts.
+    #[inline(always)]
+    pub fn is_crowded(&self, worker: u32) -> bool {
+        let share = self.session_bytes / (self.workers.len() as u64).max(1);
+        self.counts_of(worker).session_bytes() > share && self.are_all_crowded()
+    }
+
+    /// Tests whether more bytes are kept for the clients of all workers than may be.
+    #[cold]
+    fn are_all_crowded(&self) -> bool {
+        session_bytes_of(&self.workers) > self.session_bytes
     }
 
     /// Returns the commands that took long.
