@@ -109,9 +109,9 @@ module _ (k : ℕ) where
   commands_covered talk next [] same = tt
   commands_covered talk next (exchange ∷ exchanges) (mid, answers, more) = (commands_made talk exchange mid answers, commands_covered mid next exchanges more)
 
-  talked_covered : (exchanges : List (Exchange Station)) (talk : Talk) → Talked exchanges talk → Covers exchanges
-  talked_covered exchanges (Frames held) converses = frames_covered (open_at None []) held exchanges converses
-  talked_covered exchanges (Commands talk) (number, password, each) = commands_covered (begun number password) talk exchanges each
+  talked_covered : (password : Option (List ℕ)) (exchanges : List (Exchange Station)) (talk : Talk) → Talked password exchanges talk → Covers exchanges
+  talked_covered password exchanges (Frames held) converses = frames_covered (open_at None []) held exchanges converses
+  talked_covered password exchanges (Commands talk) (number, each) = commands_covered (begun number password) talk exchanges each
 
   broken_made : (talk : Talk) (exchange : Exchange Station) (next : Talk) → Breaks talk exchange next → Exchanged exchange
   broken_made (Frames held) exchange (Frames next) breaks = part_made held exchange next breaks
@@ -119,47 +119,47 @@ module _ (k : ℕ) where
   broken_made (Commands talk) exchange (Frames next) breaks = absurd breaks
   broken_made (Commands talk) exchange (Commands next) breaks = breaks_made talk exchange next breaks
 
-  said_covered : (protocol : Protocol) (IsSo : Talk → Type 0) (exchanges : List (Exchange Station)) (read said : List ℕ) → AllSaidIn protocol IsSo exchanges read said → Covers exchanges
-  said_covered protocol IsSo exchanges read said (talk, speaks, so, all) = talked_covered exchanges talk all.talked
+  said_covered : (password : Option (List ℕ)) (protocol : Protocol) (IsSo : Talk → Type 0) (exchanges : List (Exchange Station)) (read said : List ℕ) → AllSaidIn password protocol IsSo exchanges read said → Covers exchanges
+  said_covered password protocol IsSo exchanges read said (talk, speaks, so, all) = talked_covered password exchanges talk all.talked
 
-  lacks_covered : (protocol : Protocol) (exchanges : List (Exchange Station)) (read said : List ℕ) → LacksPiece protocol exchanges read said → Covers exchanges
-  lacks_covered protocol exchanges read said (taken, piece, is, some, all) = said_covered protocol _ exchanges taken said all
+  lacks_covered : (password : Option (List ℕ)) (protocol : Protocol) (exchanges : List (Exchange Station)) (read said : List ℕ) → LacksPiece password protocol exchanges read said → Covers exchanges
+  lacks_covered password protocol exchanges read said (taken, piece, is, some, all) = said_covered password protocol _ exchanges taken said all
 
-  last_covered : (protocol : Protocol) (exchanges : List (Exchange Station)) (read last said : List ℕ) → OwesLast protocol exchanges read last said → Covers exchanges
-  last_covered protocol exchanges read last said (inl (fault, is, all)) = said_covered protocol _ exchanges read said all
-  last_covered protocol exchanges read last said (inr (is, lacks)) = lacks_covered protocol exchanges read said lacks
+  last_covered : (password : Option (List ℕ)) (protocol : Protocol) (exchanges : List (Exchange Station)) (read last said : List ℕ) → OwesLast password protocol exchanges read last said → Covers exchanges
+  last_covered password protocol exchanges read last said (inl (fault, is, all)) = said_covered password protocol _ exchanges read said all
+  last_covered password protocol exchanges read last said (inr (is, lacks)) = lacks_covered password protocol exchanges read said lacks
 
-  in_part_covered : (protocol : Protocol) (exchanges : List (Exchange Station)) (read said : List ℕ) → SaidInPart protocol exchanges read said → Covers exchanges
-  in_part_covered protocol exchanges read said p =
+  in_part_covered : (password : Option (List ℕ)) (protocol : Protocol) (exchanges : List (Exchange Station)) (read said : List ℕ) → SaidInPart password protocol exchanges read said → Covers exchanges
+  in_part_covered password protocol exchanges read said p =
       subst (λ (xs : List (Exchange Station)). Covers xs) (sym p.order)
-      (covers_both p.done (p.last ∷ []) (talked_covered p.done p.talk p.whole.talked) (broken_made p.talk p.last p.next p.breaks, tt))
+      (covers_both p.done (p.last ∷ []) (talked_covered password p.done p.talk p.whole.talked) (broken_made p.talk p.last p.next p.breaks, tt))
 
-  owes_covered : (protocol : Protocol) (exchanges : List (Exchange Station)) (read whole : List ℕ) → OwesInAll protocol exchanges read whole → Covers exchanges
-  owes_covered protocol exchanges read whole (inl all) = said_covered protocol _ exchanges read whole all
-  owes_covered protocol exchanges read whole (inr (inl (last, before, owes, is))) = last_covered protocol exchanges read last before owes
-  owes_covered protocol exchanges read whole (inr (inr part)) = in_part_covered protocol exchanges read whole part
+  owes_covered : (password : Option (List ℕ)) (protocol : Protocol) (exchanges : List (Exchange Station)) (read whole : List ℕ) → OwesInAll password protocol exchanges read whole → Covers exchanges
+  owes_covered password protocol exchanges read whole (inl all) = said_covered password protocol _ exchanges read whole all
+  owes_covered password protocol exchanges read whole (inr (inl (last, before, owes, is))) = last_covered password protocol exchanges read last before owes
+  owes_covered password protocol exchanges read whole (inr (inr part)) = in_part_covered password protocol exchanges read whole part
 
-  cut_covered : (protocol : Protocol) (exchanges : List (Exchange Station)) (read said : List ℕ) → IsCutShort protocol exchanges read said → Covers exchanges
-  cut_covered protocol exchanges read said (whole, owes, front) = owes_covered protocol exchanges read whole owes
+  cut_covered : (password : Option (List ℕ)) (protocol : Protocol) (exchanges : List (Exchange Station)) (read said : List ℕ) → IsCutShort password protocol exchanges read said → Covers exchanges
+  cut_covered password protocol exchanges read said (whole, owes, front) = owes_covered password protocol exchanges read whole owes
 
-  ends_covered : (protocol : Protocol) (end : SessionEnd) (exchanges : List (Exchange Station)) (read said : List ℕ) → EndsSo protocol end exchanges read said → Covers exchanges
-  ends_covered protocol Closed exchanges read said all = said_covered protocol _ exchanges read said all
-  ends_covered protocol Cut exchanges read said all = said_covered protocol _ exchanges read said all
-  ends_covered protocol (Refused fault) exchanges read said (before, all, is) = said_covered protocol _ exchanges read before all
-  ends_covered protocol ReadFailed exchanges read said all = said_covered protocol _ exchanges read said all
-  ends_covered protocol WriteFailed exchanges read said cut = cut_covered protocol exchanges read said cut
-  ends_covered protocol NoMemory exchanges read said (before, lacks, is) = lacks_covered protocol exchanges read before lacks
+  ends_covered : (password : Option (List ℕ)) (protocol : Protocol) (end : SessionEnd) (exchanges : List (Exchange Station)) (read said : List ℕ) → EndsSo password protocol end exchanges read said → Covers exchanges
+  ends_covered password protocol Closed exchanges read said all = said_covered password protocol _ exchanges read said all
+  ends_covered password protocol Cut exchanges read said all = said_covered password protocol _ exchanges read said all
+  ends_covered password protocol (Refused fault) exchanges read said (before, all, is) = said_covered password protocol _ exchanges read before all
+  ends_covered password protocol ReadFailed exchanges read said all = said_covered password protocol _ exchanges read said all
+  ends_covered password protocol WriteFailed exchanges read said cut = cut_covered password protocol exchanges read said cut
+  ends_covered password protocol NoMemory exchanges read said (before, lacks, is) = lacks_covered password protocol exchanges read before lacks
 
-  says_covered : (leaving : Option Parting) (talk : Talk) (exchanges : List (Exchange Station)) (read said : List ℕ) → SaysSo leaving talk exchanges read said → Covers exchanges
-  says_covered None talk exchanges read said (opened, all) = talked_covered exchanges talk all.talked
-  says_covered (Some (parting.Ended end)) talk exchanges read said ends = ends_covered _ end exchanges read said ends
-  says_covered (Some parting.Over) talk exchanges read said all = said_covered _ _ exchanges read said all
-  says_covered (Some parting.LetGo) talk exchanges read said cut = cut_covered _ exchanges read said cut
-  says_covered (Some parting.NotKept) talk exchanges read said none = absurd none
+  says_covered : (password : Option (List ℕ)) (leaving : Option Parting) (talk : Talk) (exchanges : List (Exchange Station)) (read said : List ℕ) → SaysSo password leaving talk exchanges read said → Covers exchanges
+  says_covered password None talk exchanges read said (opened, all) = talked_covered password exchanges talk all.talked
+  says_covered password (Some (parting.Ended end)) talk exchanges read said ends = ends_covered password _ end exchanges read said ends
+  says_covered password (Some parting.Over) talk exchanges read said all = said_covered password _ _ exchanges read said all
+  says_covered password (Some parting.LetGo) talk exchanges read said cut = cut_covered password _ exchanges read said cut
+  says_covered password (Some parting.NotKept) talk exchanges read said none = absurd none
 
   answered_covered : (exchanges : List (Exchange Station)) → (exchanges ≡ []) ⊎ AreAnswered exchanges → Covers exchanges
   answered_covered exchanges (inl none) = subst (λ (xs : List (Exchange Station)). Covers xs) (sym none) tt
-  answered_covered exchanges (inr (leaving, talk, read, said, says)) = says_covered leaving talk exchanges read said says
+  answered_covered exchanges (inr (password, leaving, talk, read, said, says)) = says_covered password leaving talk exchanges read said says
 
   -- ---- turns
 

@@ -25,48 +25,50 @@ pub none_leaving : (leaving : Option Parting) (test : Bool) → test ≡ is_some
 none_leaving None test is unset = refl
 none_leaving (Some parting) test is unset = absurd cc
 
--- ---- the client sends no more
+-- over the password that clients of commands have to show, if there is one
+module _ (password : Option (List ℕ)) where
+  -- ---- the client sends no more
 
-pub closed_now : (talk : Talk) (exchanges : List (Exchange Station)) (read said : List ℕ) → (IsOpen talk → IsBetween talk) → SaysSo None talk exchanges read said → SaysSo (Some (Ended session.Closed)) talk exchanges read said
-closed_now talk exchanges read said between (opened, all) = (talk, refl, between opened, all)
+  pub closed_now : (talk : Talk) (exchanges : List (Exchange Station)) (read said : List ℕ) → (IsOpen talk → IsBetween talk) → SaysSo password None talk exchanges read said → SaysSo password (Some (Ended session.Closed)) talk exchanges read said
+  closed_now talk exchanges read said between (opened, all) = (talk, refl, between opened, all)
 
-pub cut_now : (talk : Talk) (exchanges : List (Exchange Station)) (read said : List ℕ) → (IsOpen talk → IsInside talk) → SaysSo None talk exchanges read said → SaysSo (Some (Ended session.Cut)) talk exchanges read said
-cut_now talk exchanges read said inside (opened, all) = (talk, refl, inside opened, all)
+  pub cut_now : (talk : Talk) (exchanges : List (Exchange Station)) (read said : List ℕ) → (IsOpen talk → IsInside talk) → SaysSo password None talk exchanges read said → SaysSo password (Some (Ended session.Cut)) talk exchanges read said
+  cut_now talk exchanges read said inside (opened, all) = (talk, refl, inside opened, all)
 
-pub failed_now : (talk : Talk) (exchanges : List (Exchange Station)) (read said : List ℕ) → SaysSo None talk exchanges read said → SaysSo (Some (Ended session.ReadFailed)) talk exchanges read said
-failed_now talk exchanges read said (opened, all) = (talk, refl, opened, all)
+  pub failed_now : (talk : Talk) (exchanges : List (Exchange Station)) (read said : List ℕ) → SaysSo password None talk exchanges read said → SaysSo password (Some (Ended session.ReadFailed)) talk exchanges read said
+  failed_now talk exchanges read said (opened, all) = (talk, refl, opened, all)
 
--- ---- however it stands, what was said is a front of what it is owed in all
+  -- ---- however it stands, what was said is a front of what it is owed in all
 
-pub any_cut : (leaving : Option Parting) (talk : Talk) (exchanges : List (Exchange Station)) (read said : List ℕ) → SaysSo leaving talk exchanges read said → IsCutShort (protocol_of talk) exchanges read said
-any_cut None talk exchanges read said (opened, all) = (said, inl (talk, refl, tt, all), front_all said)
-any_cut (Some (Ended session.Closed)) talk exchanges read said (last, speaks, is, all) = (said, inl (last, speaks, tt, all), front_all said)
-any_cut (Some (Ended session.Cut)) talk exchanges read said (last, speaks, is, all) = (said, inl (last, speaks, tt, all), front_all said)
-any_cut (Some (Ended (session.Refused fault))) talk exchanges read said (before, all, is) =
-    (said, inr (inl (refusal (protocol_fault_number fault), before, inl (fault, refl, all), is)), front_all said)
-any_cut (Some (Ended session.ReadFailed)) talk exchanges read said (last, speaks, is, all) = (said, inl (last, speaks, tt, all), front_all said)
-any_cut (Some (Ended session.WriteFailed)) talk exchanges read said cut = cut
-any_cut (Some (Ended session.NoMemory)) talk exchanges read said (before, lacks, is) =
-    (said, inr (inl (no_memory_told (protocol_of talk), before, inr (refl, lacks), is)), front_all said)
-any_cut (Some Over) talk exchanges read said (last, speaks, is, all) = (said, inl (last, speaks, tt, all), front_all said)
-any_cut (Some LetGo) talk exchanges read said cut = cut
-any_cut (Some NotKept) talk exchanges read said none = absurd none
+  pub any_cut : (leaving : Option Parting) (talk : Talk) (exchanges : List (Exchange Station)) (read said : List ℕ) → SaysSo password leaving talk exchanges read said → IsCutShort password (protocol_of talk) exchanges read said
+  any_cut None talk exchanges read said (opened, all) = (said, inl (talk, refl, tt, all), front_all said)
+  any_cut (Some (Ended session.Closed)) talk exchanges read said (last, speaks, is, all) = (said, inl (last, speaks, tt, all), front_all said)
+  any_cut (Some (Ended session.Cut)) talk exchanges read said (last, speaks, is, all) = (said, inl (last, speaks, tt, all), front_all said)
+  any_cut (Some (Ended (session.Refused fault))) talk exchanges read said (before, all, is) =
+      (said, inr (inl (refusal (protocol_fault_number fault), before, inl (fault, refl, all), is)), front_all said)
+  any_cut (Some (Ended session.ReadFailed)) talk exchanges read said (last, speaks, is, all) = (said, inl (last, speaks, tt, all), front_all said)
+  any_cut (Some (Ended session.WriteFailed)) talk exchanges read said cut = cut
+  any_cut (Some (Ended session.NoMemory)) talk exchanges read said (before, lacks, is) =
+      (said, inr (inl (no_memory_told (protocol_of talk), before, inr (refl, lacks), is)), front_all said)
+  any_cut (Some Over) talk exchanges read said (last, speaks, is, all) = (said, inl (last, speaks, tt, all), front_all said)
+  any_cut (Some LetGo) talk exchanges read said cut = cut
+  any_cut (Some NotKept) talk exchanges read said none = absurd none
 
-pub cut_front : (protocol : Protocol) (exchanges : List (Exchange Station)) (read written rest : List ℕ) → IsCutShort protocol exchanges read (written ++ rest) → IsCutShort protocol exchanges read written
-cut_front protocol exchanges read written rest (whole, owes, front) = (whole, owes, front_of_front written rest whole front)
+  pub cut_front : (protocol : Protocol) (exchanges : List (Exchange Station)) (read written rest : List ℕ) → IsCutShort password protocol exchanges read (written ++ rest) → IsCutShort password protocol exchanges read written
+  cut_front protocol exchanges read written rest (whole, owes, front) = (whole, owes, front_of_front written rest whole front)
 
--- nothing is owed
-pub none_owed : (protocol : Protocol) (parting : Parting) (exchanges : List (Exchange Station)) (read written rest : List ℕ) → length rest ≡ 0 → PartsSo protocol parting exchanges read (written ++ rest) → PartsSo protocol parting exchanges read written
-none_owed protocol parting exchanges read written [] none parts = subst (λ (t : List ℕ). PartsSo protocol parting exchanges read t) (append-nil written) parts
-none_owed protocol parting exchanges read written (b ∷ rest) none parts = absurd cc
+  -- nothing is owed
+  pub none_owed : (protocol : Protocol) (parting : Parting) (exchanges : List (Exchange Station)) (read written rest : List ℕ) → length rest ≡ 0 → PartsSo password protocol parting exchanges read (written ++ rest) → PartsSo password protocol parting exchanges read written
+  none_owed protocol parting exchanges read written [] none parts = subst (λ (t : List ℕ). PartsSo password protocol parting exchanges read t) (append-nil written) parts
+  none_owed protocol parting exchanges read written (b ∷ rest) none parts = absurd cc
 
 -- ---- how it stands after a turn
 
-module _ {C : Type 0} (state : C → ChannelState) (registry : Registry) where
+module _ {C : Type 0} (state : C → ChannelState) (registry : Registry) (password : Option (List ℕ)) where
   -- nothing was read or written
   pub stands_kept : (came : Arrival C) (now next : C) (exchanges : List (Exchange Station)) (tokens : KeptTokens) (talk : Talk) (owed : OwedState) (leaving after : Option Parting)
-      → IsKept (state now) (state next) → ((read said : List ℕ) → SaysSo leaving talk exchanges read said → SaysSo after talk exchanges read said) → (after ≡ None → leaving ≡ None)
-      → Stands state registry came now exchanges tokens talk owed leaving → Stands state registry came next exchanges tokens talk owed after
+      → IsKept (state now) (state next) → ((read said : List ℕ) → SaysSo password leaving talk exchanges read said → SaysSo password after talk exchanges read said) → (after ≡ None → leaving ≡ None)
+      → Stands state registry password came now exchanges tokens talk owed leaving → Stands state registry password came next exchanges tokens talk owed after
   stands_kept came now next exchanges tokens talk owed leaving after kept turn still stands = record {
     speaks = stands.speaks;
     read = stands.read;
@@ -81,20 +83,20 @@ module _ {C : Type 0} (state : C → ChannelState) (registry : Registry) where
 
   -- no exchange was added
   pub turns_quietly : (passes : Known) (came : Arrival C) (now : C) (exchanges : List (Exchange Station)) (tokens : KeptTokens) (talk : Talk) (owed : OwedState) (leaving : Option Parting)
-      → Stands state registry came now exchanges tokens talk owed leaving → TurnsTo state registry passes passes came now exchanges tokens talk owed leaving
+      → Stands state registry password came now exchanges tokens talk owed leaving → TurnsTo state registry password passes passes came now exchanges tokens talk owed leaving
   turns_quietly passes came now exchanges tokens talk owed leaving stands = record {
     more = [];
     moves = refl;
     numbers = numbers_stay passes;
-    stands = subst (λ (es : List (Exchange Station)). Stands state registry came now es tokens talk owed leaving) (sym (append-nil exchanges)) stands;
+    stands = subst (λ (es : List (Exchange Station)). Stands state registry password came now es tokens talk owed leaving) (sym (append-nil exchanges)) stands;
   }
 
   -- a piece was read and answered
   pub turns_by_piece : (old new : Known) (came : Arrival C) (now next : C) (exchanges : List (Exchange Station)) (tokens after : KeptTokens) (talk later : Talk) (owed more_owed : OwedState) (leaving : Option Parting) (piece : List ℕ)
       → Consumes (state now).left (state next).left piece → Keeps (state now).held (state next).held
-      → ((read said : List ℕ) → SaysSo None talk exchanges read said → SaysMore old new exchanges tokens after later leaving (read ++ piece) said owed.rest more_owed.rest)
+      → ((read said : List ℕ) → SaysSo password None talk exchanges read said → SaysMore password old new exchanges tokens after later leaving (read ++ piece) said owed.rest more_owed.rest)
       → protocol_of later ≡ protocol_of talk → (leaving ≡ None → more_owed.failures ≡ 0)
-      → Stands state registry came now exchanges tokens talk owed None → TurnsTo state registry old new came next exchanges after later more_owed leaving
+      → Stands state registry password came now exchanges tokens talk owed None → TurnsTo state registry password old new came next exchanges after later more_owed leaving
   turns_by_piece old new came now next exchanges tokens after talk later owed more_owed leaving piece consumed kept says speaks unfailed stands =
       let m = says stands.read (stands.written ++ owed.rest) stands.says in
       record {
@@ -109,7 +111,7 @@ module _ {C : Type 0} (state : C → ChannelState) (registry : Registry) where
           appended = Appends-kept (state came.channel).held (state now).held (state next).held stands.written stands.appended kept;
           of = m.of ∙ stands.of;
           keeps = tokens_go_on (no_tokens registry) tokens after exchanges m.more stands.keeps m.keeps;
-          says = subst (λ (t : List ℕ). SaysSo leaving later (exchanges ++ m.more) (stands.read ++ piece) t)
+          says = subst (λ (t : List ℕ). SaysSo password leaving later (exchanges ++ m.more) (stands.read ++ piece) t)
               (append_assoc stands.written owed.rest m.grown ∙ ap (λ (t : List ℕ). stands.written ++ t) (sym m.owed_is)) m.says;
           unfailed = unfailed;
         };
@@ -117,7 +119,7 @@ module _ {C : Type 0} (state : C → ChannelState) (registry : Registry) where
 
   -- what is owed was taken, or a front of it
   pub stands_told : (came : Arrival C) (now next : C) (exchanges : List (Exchange Station)) (tokens : KeptTokens) (talk : Talk) (owed left : OwedState) (leaving : Option Parting)
-      → TakesOwed (state now) (state next) owed left → Stands state registry came now exchanges tokens talk owed leaving → Stands state registry came next exchanges tokens talk left leaving
+      → TakesOwed (state now) (state next) owed left → Stands state registry password came now exchanges tokens talk owed leaving → Stands state registry password came next exchanges tokens talk left leaving
   stands_told came now next exchanges tokens talk owed left leaving takes stands = record {
     speaks = stands.speaks;
     read = stands.read;
@@ -126,15 +128,15 @@ module _ {C : Type 0} (state : C → ChannelState) (registry : Registry) where
     appended = Appends-trans (state came.channel).held (state now).held (state next).held stands.written takes.front stands.appended takes.taken;
     of = stands.of;
     keeps = stands.keeps;
-    says = subst (λ (t : List ℕ). SaysSo leaving talk exchanges stands.read t)
+    says = subst (λ (t : List ℕ). SaysSo password leaving talk exchanges stands.read t)
         (ap (λ (t : List ℕ). stands.written ++ t) takes.parts ∙ sym (append_assoc stands.written takes.front left.rest)) stands.says;
     unfailed = λ none. takes.failures ∙ stands.unfailed none;
   }
 
   -- it leaves, whatever it is owed
   pub stands_leaving : (came : Arrival C) (now : C) (exchanges : List (Exchange Station)) (tokens : KeptTokens) (talk : Talk) (owed : OwedState) (leaving : Option Parting) (parting : Parting)
-      → ((exchanges : List (Exchange Station)) (read said : List ℕ) → IsCutShort (protocol_of talk) exchanges read said → SaysSo (Some parting) talk exchanges read said)
-      → Stands state registry came now exchanges tokens talk owed leaving → Stands state registry came now exchanges tokens talk owed (Some parting)
+      → ((exchanges : List (Exchange Station)) (read said : List ℕ) → IsCutShort password (protocol_of talk) exchanges read said → SaysSo password (Some parting) talk exchanges read said)
+      → Stands state registry password came now exchanges tokens talk owed leaving → Stands state registry password came now exchanges tokens talk owed (Some parting)
   stands_leaving came now exchanges tokens talk owed leaving parting cut stands = record {
     speaks = stands.speaks;
     read = stands.read;
@@ -143,14 +145,14 @@ module _ {C : Type 0} (state : C → ChannelState) (registry : Registry) where
     appended = stands.appended;
     of = stands.of;
     keeps = stands.keeps;
-    says = cut exchanges stands.read (stands.written ++ owed.rest) (any_cut leaving talk exchanges stands.read (stands.written ++ owed.rest) stands.says);
+    says = cut exchanges stands.read (stands.written ++ owed.rest) (any_cut password leaving talk exchanges stands.read (stands.written ++ owed.rest) stands.says);
     unfailed = λ none. absurd cc;
   }
 
   -- further turns after these
   pub then_stands : (old new : Known) (came : Arrival C) (now next : C) (exchanges : List (Exchange Station)) (tokens after : KeptTokens) (talk later : Talk) (owed left : OwedState) (leaving last : Option Parting)
-      → (t : TurnsTo state registry old new came now exchanges tokens talk owed leaving) → (Stands state registry came now (exchanges ++ t.more) tokens talk owed leaving → Stands state registry came next (exchanges ++ t.more) after later left last)
-      → TurnsTo state registry old new came next exchanges after later left last
+      → (t : TurnsTo state registry password old new came now exchanges tokens talk owed leaving) → (Stands state registry password came now (exchanges ++ t.more) tokens talk owed leaving → Stands state registry password came next (exchanges ++ t.more) after later left last)
+      → TurnsTo state registry password old new came next exchanges after later left last
   then_stands old new came now next exchanges tokens after talk later owed left leaving last t goes = record {
     more = t.more;
     moves = t.moves;

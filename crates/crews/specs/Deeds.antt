@@ -100,7 +100,8 @@ module _ (k : ℕ) where
 
 -- what was read of a client is answered in these exchanges, in its protocol; it may have left since
 abbrev pub AreAnswered : List (Exchange Station) → Type 0
-AreAnswered exchanges = (leaving : Option Parting) × (talk : Talk) × (read : List ℕ) × (said : List ℕ) × SaysSo leaving talk exchanges read said
+AreAnswered exchanges =
+    (password : Option (List ℕ)) × (leaving : Option Parting) × (talk : Talk) × (read : List ℕ) × (said : List ℕ) × SaysSo password leaving talk exchanges read said
 
 -- the turns lead from what the passes knew to what they know, and those with each client answered it
 pub record Lives (old : Known) (turns : List Turn) (new : Known) : Type 0 where
@@ -109,15 +110,15 @@ pub record Lives (old : Known) (turns : List Turn) (new : Known) : Type 0 where
   pub numbers : KeepsNumbers old new
 
 -- so is the life of a crew that served clients
-module _ {C : Type 0} (state : C → ChannelState) (gave : PassState → C → Protocol → Type 0) (registry : Registry) where
-  abbrev pub answered_in : (old : Known) (turns : List Turn) (new : Known) (clients client : ℕ) → Life state gave registry old turns new clients
+module _ {C : Type 0} (state : C → ChannelState) (gave : PassState → C → Protocol → Type 0) (registry : Registry) (password : Option (List ℕ)) where
+  abbrev pub answered_in : (old : Known) (turns : List Turn) (new : Known) (clients client : ℕ) → Life state gave registry password old turns new clients
       → (client < clients) ⊎ (clients ≤ client) → (exchanges_of client turns ≡ []) ⊎ AreAnswered (exchanges_of client turns)
   answered_in old turns new clients client life (inr beyond) = inl (life.no_other client beyond)
   answered_in old turns new clients client life (inl within) =
       let (came, now, tokens, talk, owed, leaving, come, stands) = life.each client within in
-      inr (leaving, talk, stands.read, stands.written ++ owed.rest, stands.says)
+      inr (password, leaving, talk, stands.read, stands.written ++ owed.rest, stands.says)
 
-  abbrev pub lives_of : (old new : Crew) (lived : HasLived state gave registry old new) → Lives (known_of old) lived.0 (known_of new)
+  abbrev pub lives_of : (old new : Crew) (lived : HasLived state gave registry password old new) → Lives (known_of old) lived.0 (known_of new)
   lives_of old new (turns, clients, life) = record {
     moves = life.moves;
     each = λ client. answered_in (known_of old) turns (known_of new) clients client life (cases_lt client clients);

@@ -62,8 +62,8 @@ pub record Arrival (C : Type 0) : Type 0 where
   pub channel : C
   pub protocol : Protocol
 
--- over what connections tell, and the registry of all programs
-module _ {C : Type 0} (state : C → ChannelState) (registry : Registry) where
+-- over what connections tell, the registry of all programs, and the password that clients of commands have to show, if there is one
+module _ {C : Type 0} (state : C → ChannelState) (registry : Registry) (password : Option (List ℕ)) where
   -- a client that came so speaks the protocol of its port: what was read of it is answered in these exchanges, each with the tokens of
   -- the one before it, and what was written to it, with what is owed, are the answers
   pub record Stands (came : Arrival C) (now : C) (exchanges : List (Exchange Station)) (tokens : KeptTokens) (talk : Talk) (owed : OwedState) (leaving : Option Parting) : Type 0 where
@@ -74,7 +74,7 @@ module _ {C : Type 0} (state : C → ChannelState) (registry : Registry) where
     pub appended : Appends (state came.channel).held (state now).held written
     pub of : tokens.registry ≡ registry
     pub keeps : KeepsTokens (no_tokens registry) exchanges tokens
-    pub says : SaysSo leaving talk exchanges read (written ++ owed.rest)
+    pub says : SaysSo password leaving talk exchanges read (written ++ owed.rest)
     pub unfailed : leaving ≡ None → owed.failures ≡ 0
 
 -- over which connections were given to the worker, what its pass knew then, and by which protocol
@@ -108,15 +108,16 @@ module _ {C : Type 0} (state : C → ChannelState) (gave : PassState → C → P
     pub consumed : Consumes (state came.channel).left (state now).left read
     pub appended : Appends (state came.channel).held (state now).held written
     pub keeps : KeepsTokens (no_tokens tokens.registry) (exchanges_of client turns) tokens
-    pub parts : PartsSo came.protocol parting (exchanges_of client turns) read written
+    pub password : Option (List ℕ)
+    pub parts : PartsSo password came.protocol parting (exchanges_of client turns) read written
 
--- the same, and the registry of all programs
-module _ {C : Type 0} (state : C → ChannelState) (gave : PassState → C → Protocol → Type 0) (registry : Registry) where
+-- the same, the registry of all programs, and the password
+module _ {C : Type 0} (state : C → ChannelState) (gave : PassState → C → Protocol → Type 0) (registry : Registry) (password : Option (List ℕ)) where
   -- a client came and has had its turns among these
   abbrev pub IsOfClient : Known → List Turn → Known → ℕ → Type 0
   IsOfClient old turns new client =
       (came : Arrival C) × (now : C) × (tokens : KeptTokens) × (talk : Talk) × (owed : OwedState) × (leaving : Option Parting)
-      × HasCome gave old turns new client came × Stands state registry came now (exchanges_of client turns) tokens talk owed leaving
+      × HasCome gave old turns new client came × Stands state registry password came now (exchanges_of client turns) tokens talk owed leaving
 
   -- turns with this number of clients, and sweeps, lead from what the passes knew to what they know
   pub record Life (old : Known) (turns : List Turn) (new : Known) (clients : ℕ) : Type 0 where

@@ -74,10 +74,11 @@ abbrev pub AnswersEach : TalkState → List (Exchange Station) → TalkState →
 AnswersEach talk [] next = next ≡ talk
 AnswersEach talk (exchange ∷ exchanges) next = (mid : TalkState) × AnswersCommands talk exchange mid × AnswersEach mid exchanges next
 
--- from their beginning the client's exchanges went so, one after the other, and the talk is this now
-abbrev pub Talked : List (Exchange Station) → Talk → Type 0
-Talked exchanges (Frames held) = Converses CrewServes (open_at None []) exchanges held
-Talked exchanges (Commands talk) = (number : ℕ) × (password : Option (List ℕ)) × AnswersEach (begun number password) exchanges talk
+-- from their beginning the client's exchanges went so, one after the other, and the talk is this now; one in commands has to show this
+-- password, if there is one
+abbrev pub Talked : Option (List ℕ) → List (Exchange Station) → Talk → Type 0
+Talked password exchanges (Frames held) = Converses CrewServes (open_at None []) exchanges held
+Talked password exchanges (Commands talk) = (number : ℕ) × AnswersEach (begun number password) exchanges talk
 
 -- the answers to the piece of this exchange break off
 abbrev pub Breaks : Talk → Exchange Station → Talk → Type 0

@@ -44,7 +44,7 @@ Leads old [] new = new ≡ old
 Leads old (exchange ∷ exchanges) new = (known exchange.old ≡ old) × Leads (known exchange.new) exchanges new
 
 -- further exchanges moved the passes, and the client was told more
-pub record SaysMore (old new : Known) (exchanges : List (Exchange Station)) (tokens after : KeptTokens) (talk : Talk) (leaving : Option Parting) (read said owed more_owed : List ℕ) : Type 0 where
+pub record SaysMore (password : Option (List ℕ)) (old new : Known) (exchanges : List (Exchange Station)) (tokens after : KeptTokens) (talk : Talk) (leaving : Option Parting) (read said owed more_owed : List ℕ) : Type 0 where
   pub more : List (Exchange Station)
   pub moves : Leads old more new
   pub numbers : KeepsNumbers old new
@@ -52,12 +52,12 @@ pub record SaysMore (old new : Known) (exchanges : List (Exchange Station)) (tok
   pub of : after.registry ≡ tokens.registry
   pub grown : List ℕ
   pub owed_is : more_owed ≡ owed ++ grown
-  pub says : SaysSo leaving talk (exchanges ++ more) read (said ++ grown)
+  pub says : SaysSo password leaving talk (exchanges ++ more) read (said ++ grown)
 
-module _ {C : Type 0} (state : C → ChannelState) (registry : Registry) where
+module _ {C : Type 0} (state : C → ChannelState) (registry : Registry) (password : Option (List ℕ)) where
   -- further exchanges moved the passes, and the client stands so after them
   pub record TurnsTo (old new : Known) (came : Arrival C) (now : C) (exchanges : List (Exchange Station)) (tokens : KeptTokens) (talk : Talk) (owed : OwedState) (leaving : Option Parting) : Type 0 where
     pub more : List (Exchange Station)
     pub moves : Leads old more new
     pub numbers : KeepsNumbers old new
-    pub stands : Stands state registry came now (exchanges ++ more) tokens talk owed leaving
+    pub stands : Stands state registry password came now (exchanges ++ more) tokens talk owed leaving

@@ -1,5 +1,5 @@
 //! How a piece of a client's bytes is answered, by the protocol that the client speaks.
-ghost use Rattle.std.specs.Prelude.{◌≡◌, ◌≢◌, ◌≤◌, ℕ, List, ◌++◌, length, take, None, Some, Err, MatchResult, false};
+ghost use Rattle.std.specs.Prelude.{◌≡◌, ◌≢◌, ◌≤◌, ℕ, List, ◌++◌, length, take, Option, None, Some, Err, MatchResult, false};
 ghost use Rattle.bin_stripes.specs.Passes.{ServesSameMap};
 ghost use Rattle.client_protocol.specs.Faults.{protocol_fault_number};
 ghost use Rattle.redis_service.specs.Lines.{no_memory_line};
@@ -122,8 +122,8 @@ pub fn answer_frames<'a, 'r, H: Threads + Wait + Sync, G: Gate + Sync>(
     requires within { count ≤ length room.old.piece }
     ensures desk { room.new.desk ≡ room.old.desk }
     ensures unfailed { result ≡ None → owed.new.failures ≡ 0 }
-    ensures says { (exchanges : List (TheExchange Station)) (read said : List ℕ) → SaysSo None (Talk.Frames feeder.old) exchanges read said
-        → SaysMore (known room.old.serving) (known room.new.serving) exchanges tokens.old tokens.new
+    ensures says { (password : Option (List ℕ)) (exchanges : List (TheExchange Station)) (read said : List ℕ) → SaysSo password None (Talk.Frames feeder.old) exchanges read said
+        → SaysMore password (known room.old.serving) (known room.new.serving) exchanges tokens.old tokens.new
         (Talk.Frames feeder.new) result (read ++ take count room.old.piece) said owed.old.rest owed.new.rest }
 {
     let number = room.number;
@@ -164,8 +164,8 @@ pub fn answer_commands<'a, 'r, H: Wait>(
     requires is_open { talk.old.is_over ≡ false }
     ensures desk { room.new.desk ≡ room.old.desk }
     ensures unfailed { result ≡ None → owed.new.failures ≡ 0 }
-    ensures says { (exchanges : List (TheExchange Station)) (tokens : KeptTokens) (read said : List ℕ) → SaysSo None (Talk.Commands talk.old) exchanges read said
-        → SaysMore (known room.old.serving) (known room.new.serving) exchanges tokens tokens
+    ensures says { (password : Option (List ℕ)) (exchanges : List (TheExchange Station)) (tokens : KeptTokens) (read said : List ℕ) → SaysSo password None (Talk.Commands talk.old) exchanges read said
+        → SaysMore password (known room.old.serving) (known room.new.serving) exchanges tokens tokens
         (Talk.Commands talk.new) result (read ++ take count room.old.piece) said owed.old.rest owed.new.rest }
 {
     let moment = Moment { rt, time: room.now };

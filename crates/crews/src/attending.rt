@@ -1,8 +1,9 @@
 //! A worker's whole life, with any number of clients.
-ghost use Rattle.std.specs.Prelude.{◌≡◌, ◌+◌, ◌++◌, ℕ, List, [], None};
+ghost use Rattle.std.specs.Prelude.{◌≡◌, ◌+◌, ◌++◌, ℕ, List, [], Option, None};
 ghost use Rattle.slab.specs.Slab.{get, slab_len, HasRoomFor};
 ghost use Rattle.program_registry.specs.declared.registry.Registry.{Registry as TheRegistry};
 ghost use Rattle.devices.specs.Channels.{Sends};
+ghost use Rattle.server_state.specs.Passwords.{lent};
 ghost use Rattle.crews.specs.Arrivals.{CountGoes};
 ghost use Rattle.crews.specs.Crews.{IsCrewOf, CarriesSame};
 ghost use Rattle.crews.specs.Lives.{Arrival, Known, known, known_of, Turn, HasLived};
@@ -32,12 +33,15 @@ use std::alloc::Global;
 use std::sync::Wait;
 use std::thread::Threads;
 
-/// What a worker has at hand: the password that clients of commands have to show, the room of all turns, the clients in their seats, how
-/// many came, and whether its last sweep left entries whose time is over.
+/// A client for which no more than this is kept stays, however much is kept for the others.
+const FAIR_BYTES: u64 = 4096;
+
+/// What a worker has at hand: what the server knows of itself, the room of all turns, the clients in their seats, how many came, and
+/// whether its last sweep left entries whose time is over.
 #[derive(Drop)]
 struct Attendant<'a, 'r, C> {
     alloc: Global,
-    password: Option<&'a Password>,
+    state: &'a ServerState,
     room: Room<'a, 'r>,
     seats: Slab<Client<'a, C>>,
     came: u64,
@@ -81,21 +85,23 @@ impl<'a, 'r, C: Channel + Drop> Attendant<'a, 'r, C> {
         client_number(self.room.number, self.came)
     }
 
-    /// A client came with this connection, speaks this protocol, and takes a seat. It has no token yet.
+    /// A client came with this connection, speaks this protocol, and takes a seat. It has no token yet. If it speaks commands, it has to
+    /// show the password, if there is one.
     fn take_in<P: Clients<C>>(
         &mut self,
         clients: &mut P,
         tokens: Tokens<'a>,
         channel: C,
         protocol: Protocol,
+        password: Option<&'a Password>,
     )
         requires gave { P.gave self.old.room.serving.pass channel protocol }
         requires none { tokens ≡ no_tokens tokens.registry }
         ensures desk { self.new.room.desk ≡ self.old.room.desk }
         ensures there { CountGoes (P.there tokens.entry.registry) clients.old (slab_len self.old.seats + 1) clients.new (slab_len self.new.seats) }
         ensures attended { (old : Known) (turns : List Turn)
-            → IsAttended C.state P.gave tokens.entry.registry old turns (known self.old.room.serving) self.old.came self.old.seats
-            → IsAttended C.state P.gave tokens.entry.registry old turns (known self.new.room.serving) self.new.came self.new.seats }
+            → IsAttended C.state P.gave tokens.entry.registry (lent password.entry) old turns (known self.old.room.serving) self.old.came self.old.seats
+            → IsAttended C.state P.gave tokens.entry.registry (lent password.entry) old turns (known self.new.room.serving) self.new.came self.new.seats }
     {
         let mut channel = channel;
         let Some(came) = self.came.checked_add(1) else {
@@ -108,11 +114,16 @@ impl<'a, 'r, C: Channel + Drop> Attendant<'a, 'r, C> {
         let Ok(()) = clients.watch(seat, &mut channel) else {
             return turn_away(clients, tokens, self.room.serving.pass(), channel, protocol);
         };
-        let talk = Talk::new(self.alloc, self.next_number(), self.password, protocol);
+        let talk = Talk::new(self.alloc, self.next_number(), password, protocol);
         let client = Client::new(self.alloc, self.came, tokens, channel, talk);
         self.room.counts.count_kept(0, client.bytes());
         let _ = self.seats.insert_reserved(client);
         self.came = came;
+    }
+
+    /// Whether the client has to go, since more is kept for the server's clients than may be, and some of it for this one.
+    fn is_too_much(&self, client: &Client<'a, C>) -> bool {
+        client.bytes() > FAIR_BYTES && self.state.is_crowded(self.room.number)
     }
 
     /// The client, which has left its seat for a turn, takes it again, or is gone.
@@ -124,17 +135,17 @@ impl<'a, 'r, C: Channel + Drop> Attendant<'a, 'r, C> {
         standing: Standing,
     )
         requires room { HasRoomFor self.old.seats 1 }
-        requires client { (registry : TheRegistry) × (old : Known) × (turns : List Turn)
-            × IsClient C.state P.gave registry old turns (known self.old.room.serving) self.old.came client }
+        requires client { (registry : TheRegistry) × (password : Option (List ℕ)) × (old : Known) × (turns : List Turn)
+            × IsClient C.state P.gave registry password old turns (known self.old.room.serving) self.old.came client }
         ensures desk { self.new.room.desk ≡ self.old.room.desk }
         ensures there { CountGoes (P.there client.entry.tokens.registry) clients.old (slab_len self.old.seats + 1) clients.new (slab_len self.new.seats) }
-        ensures attended { (registry : TheRegistry) (old : Known) (turns : List Turn)
-            → IsAttended C.state P.gave registry old turns (known self.old.room.serving) self.old.came self.old.seats
-            → HasNone C.state P.gave registry self.old.seats client.entry.number
-            → IsClient C.state P.gave registry old turns (known self.old.room.serving) self.old.came client.entry
-            → IsAttended C.state P.gave registry old turns (known self.new.room.serving) self.new.came self.new.seats }
+        ensures attended { (registry : TheRegistry) (password : Option (List ℕ)) (old : Known) (turns : List Turn)
+            → IsAttended C.state P.gave registry password old turns (known self.old.room.serving) self.old.came self.old.seats
+            → HasNone C.state P.gave registry password self.old.seats client.entry.number
+            → IsClient C.state P.gave registry password old turns (known self.old.room.serving) self.old.came client.entry
+            → IsAttended C.state P.gave registry password old turns (known self.new.room.serving) self.new.came self.new.seats }
     {
-        if client.has_left() {
+        if client.has_left() || self.is_too_much(&client) {
             self.room.counts.count_kept(client.bytes(), 0);
             client.part(clients, self.room.serving.pass(), seat);
             return;
@@ -150,17 +161,17 @@ impl<'a, 'r, C: Channel + Drop> Attendant<'a, 'r, C> {
         clients: &mut P,
         seat: usize,
     )
-        requires attended { (registry : TheRegistry) × (old : Known) × (turns : List Turn)
-            × IsAttended C.state P.gave registry old turns (known self.old.room.serving) self.old.came self.old.seats }
+        requires attended { (registry : TheRegistry) × (password : Option (List ℕ)) × (old : Known) × (turns : List Turn)
+            × IsAttended C.state P.gave registry password old turns (known self.old.room.serving) self.old.came self.old.seats }
         requires desk { self.old.room.serving.pass.map ≡ self.old.room.desk }
         ensures desk { self.new.room.desk ≡ self.old.room.desk }
-        ensures there { (registry : TheRegistry) (old : Known) (turns : List Turn)
-            → IsAttended C.state P.gave registry old turns (known self.old.room.serving) self.old.came self.old.seats
+        ensures there { (registry : TheRegistry) (password : Option (List ℕ)) (old : Known) (turns : List Turn)
+            → IsAttended C.state P.gave registry password old turns (known self.old.room.serving) self.old.came self.old.seats
             → CountGoes (P.there registry) clients.old (slab_len self.old.seats) clients.new (slab_len self.new.seats) }
-        ensures attended { (registry : TheRegistry) (old : Known) (turns : List Turn)
-            → IsAttended C.state P.gave registry old turns (known self.old.room.serving) self.old.came self.old.seats
+        ensures attended { (registry : TheRegistry) (password : Option (List ℕ)) (old : Known) (turns : List Turn)
+            → IsAttended C.state P.gave registry password old turns (known self.old.room.serving) self.old.came self.old.seats
             → (more : List Turn)
-            × IsAttended C.state P.gave registry old (turns ++ more) (known self.new.room.serving) self.new.came self.new.seats }
+            × IsAttended C.state P.gave registry password old (turns ++ more) (known self.new.room.serving) self.new.came self.new.seats }
     {
         let Some(mut client) = self.seats.try_remove(seat) else {
             return;
@@ -173,15 +184,15 @@ impl<'a, 'r, C: Channel + Drop> Attendant<'a, 'r, C> {
 
     /// The client of this seat is let go, if there is one: at once if it was leaving already.
     fn let_go<P: Clients<C>>(&mut self, clients: &mut P, seat: usize)
-        requires attended { (registry : TheRegistry) × (old : Known) × (turns : List Turn)
-            × IsAttended C.state P.gave registry old turns (known self.old.room.serving) self.old.came self.old.seats }
+        requires attended { (registry : TheRegistry) × (password : Option (List ℕ)) × (old : Known) × (turns : List Turn)
+            × IsAttended C.state P.gave registry password old turns (known self.old.room.serving) self.old.came self.old.seats }
         ensures desk { self.new.room.desk ≡ self.old.room.desk }
-        ensures there { (registry : TheRegistry) (old : Known) (turns : List Turn)
-            → IsAttended C.state P.gave registry old turns (known self.old.room.serving) self.old.came self.old.seats
+        ensures there { (registry : TheRegistry) (password : Option (List ℕ)) (old : Known) (turns : List Turn)
+            → IsAttended C.state P.gave registry password old turns (known self.old.room.serving) self.old.came self.old.seats
             → CountGoes (P.there registry) clients.old (slab_len self.old.seats) clients.new (slab_len self.new.seats) }
-        ensures attended { (registry : TheRegistry) (old : Known) (turns : List Turn)
-            → IsAttended C.state P.gave registry old turns (known self.old.room.serving) self.old.came self.old.seats
-            → IsAttended C.state P.gave registry old turns (known self.new.room.serving) self.new.came self.new.seats }
+        ensures attended { (registry : TheRegistry) (password : Option (List ℕ)) (old : Known) (turns : List Turn)
+            → IsAttended C.state P.gave registry password old turns (known self.old.room.serving) self.old.came self.old.seats
+            → IsAttended C.state P.gave registry password old turns (known self.new.room.serving) self.new.came self.new.seats }
     {
         let Some(mut client) = self.seats.try_remove(seat) else {
             return;
@@ -199,17 +210,17 @@ impl<'a, 'r, C: Channel + Drop> Attendant<'a, 'r, C> {
 
     /// The client of this seat, if there is one, is let go at once.
     fn drop_one<P: Clients<C>>(&mut self, clients: &mut P, seat: usize)
-        requires attended { (registry : TheRegistry) × (old : Known) × (turns : List Turn)
-            × IsAttended C.state P.gave registry old turns (known self.old.room.serving) self.old.came self.old.seats }
+        requires attended { (registry : TheRegistry) × (password : Option (List ℕ)) × (old : Known) × (turns : List Turn)
+            × IsAttended C.state P.gave registry password old turns (known self.old.room.serving) self.old.came self.old.seats }
         ensures gone { get self.new.seats seat ≡ None }
         ensures over { P.over clients.old → P.over clients.new }
         ensures others { (other : ℕ) → get self.old.seats other ≡ None → get self.new.seats other ≡ None }
-        ensures there { (registry : TheRegistry) (old : Known) (turns : List Turn)
-            → IsAttended C.state P.gave registry old turns (known self.old.room.serving) self.old.came self.old.seats
+        ensures there { (registry : TheRegistry) (password : Option (List ℕ)) (old : Known) (turns : List Turn)
+            → IsAttended C.state P.gave registry password old turns (known self.old.room.serving) self.old.came self.old.seats
             → CountGoes (P.there registry) clients.old (slab_len self.old.seats) clients.new (slab_len self.new.seats) }
-        ensures attended { (registry : TheRegistry) (old : Known) (turns : List Turn)
-            → IsAttended C.state P.gave registry old turns (known self.old.room.serving) self.old.came self.old.seats
-            → IsAttended C.state P.gave registry old turns (known self.new.room.serving) self.new.came self.new.seats }
+        ensures attended { (registry : TheRegistry) (password : Option (List ℕ)) (old : Known) (turns : List Turn)
+            → IsAttended C.state P.gave registry password old turns (known self.old.room.serving) self.old.came self.old.seats
+            → IsAttended C.state P.gave registry password old turns (known self.new.room.serving) self.new.came self.new.seats }
     {
         let Some(client) = self.seats.try_remove(seat) else {
             return;
@@ -220,16 +231,16 @@ impl<'a, 'r, C: Channel + Drop> Attendant<'a, 'r, C> {
 
     /// All clients are let go at once.
     fn drop_all<P: Clients<C>>(&mut self, clients: &mut P)
-        requires attended { (registry : TheRegistry) × (old : Known) × (turns : List Turn)
-            × IsAttended C.state P.gave registry old turns (known self.old.room.serving) self.old.came self.old.seats }
+        requires attended { (registry : TheRegistry) × (password : Option (List ℕ)) × (old : Known) × (turns : List Turn)
+            × IsAttended C.state P.gave registry password old turns (known self.old.room.serving) self.old.came self.old.seats }
         ensures empty { slab_len self.new.seats ≡ 0 }
         ensures over { P.over clients.old → P.over clients.new }
-        ensures there { (registry : TheRegistry) (old : Known) (turns : List Turn)
-            → IsAttended C.state P.gave registry old turns (known self.old.room.serving) self.old.came self.old.seats
+        ensures there { (registry : TheRegistry) (password : Option (List ℕ)) (old : Known) (turns : List Turn)
+            → IsAttended C.state P.gave registry password old turns (known self.old.room.serving) self.old.came self.old.seats
             → CountGoes (P.there registry) clients.old (slab_len self.old.seats) clients.new (slab_len self.new.seats) }
-        ensures attended { (registry : TheRegistry) (old : Known) (turns : List Turn)
-            → IsAttended C.state P.gave registry old turns (known self.old.room.serving) self.old.came self.old.seats
-            → IsAttended C.state P.gave registry old turns (known self.new.room.serving) self.new.came self.new.seats }
+        ensures attended { (registry : TheRegistry) (password : Option (List ℕ)) (old : Known) (turns : List Turn)
+            → IsAttended C.state P.gave registry password old turns (known self.old.room.serving) self.old.came self.old.seats
+            → IsAttended C.state P.gave registry password old turns (known self.new.room.serving) self.new.came self.new.seats }
     {
         for seat in 0..self.seats.capacity() {
             self.drop_one(clients, seat);
@@ -252,37 +263,38 @@ impl<'a, 'r, C: Channel + Drop> Attendant<'a, 'r, C> {
         requires desk { self.old.room.serving.pass.map ≡ self.old.room.desk }
         ensures desk { self.new.room.desk ≡ self.old.room.desk }
         ensures there { (registry : TheRegistry) → CountGoes (P.there registry) clients.old (slab_len self.old.seats) clients.new (slab_len self.new.seats) }
-        ensures attended { (registry : TheRegistry) (old : Known) (turns : List Turn)
-            → IsAttended C.state P.gave registry old turns (known self.old.room.serving) self.old.came self.old.seats
+        ensures attended { (registry : TheRegistry) (password : Option (List ℕ)) (old : Known) (turns : List Turn)
+            → IsAttended C.state P.gave registry password old turns (known self.old.room.serving) self.old.came self.old.seats
             → (more : List Turn)
-            × IsAttended C.state P.gave registry old (turns ++ more) (known self.new.room.serving) self.new.came self.new.seats }
+            × IsAttended C.state P.gave registry password old (turns ++ more) (known self.new.room.serving) self.new.came self.new.seats }
     {
         self.room.now = clients.now();
         self.hurries = self.room.sweep(rt);
     }
 
-    /// Does what is told, until it is over.
+    /// Does what is told, until it is over. The state is the attendant's own: the clauses name its password.
     fn attend_all<P: Clients<C>, H: Threads + Wait + Sync, G: Gate + Sync>(
         &mut self,
         worker: &Worker<'a, H, G>,
+        state: &'a ServerState,
         clients: &mut P,
     )
         requires attended { (old : Known) × (turns : List Turn)
-            × IsAttended C.state P.gave worker.now.registry.now old turns (known self.old.room.serving) self.old.came self.old.seats }
+            × IsAttended C.state P.gave worker.now.registry.now state.now.password old turns (known self.old.room.serving) self.old.came self.old.seats }
         requires serves { P.serves self.old.room.serving.pass.map }
         requires desk { self.old.room.serving.pass.map ≡ self.old.room.desk }
         ensures over { P.over clients.new }
         ensures there { CountGoes (P.there worker.now.registry.now) clients.old (slab_len self.old.seats) clients.new (slab_len self.new.seats) }
         ensures attended { (old : Known) (turns : List Turn)
-            → IsAttended C.state P.gave worker.now.registry.now old turns (known self.old.room.serving) self.old.came self.old.seats
+            → IsAttended C.state P.gave worker.now.registry.now state.now.password old turns (known self.old.room.serving) self.old.came self.old.seats
             → (more : List Turn)
-            × IsAttended C.state P.gave worker.now.registry.now old (turns ++ more) (known self.new.room.serving) self.new.came self.new.seats }
+            × IsAttended C.state P.gave worker.now.registry.now state.now.password old (turns ++ more) (known self.new.room.serving) self.new.came self.new.seats }
     {
         for _ in worker.rt.forever() {
             match clients.next(self.room.serving.pass(), self.next_sweep()) {
                 Event::Came(channel, protocol) => {
                     let tokens = Tokens::new(worker.alloc, worker.registry);
-                    self.take_in(clients, tokens, channel, protocol);
+                    self.take_in(clients, tokens, channel, protocol, state.password());
                 }
                 Event::Ready(seat) => self.serve_one(worker, clients, seat),
                 Event::LetGo(seat) => self.let_go(clients, seat),
@@ -322,7 +334,7 @@ fn begun<'a, 'r, H, C: Channel + Drop, G>(
     };
     Attendant {
         alloc: worker.alloc,
-        password: state.password(),
+        state,
         room: Room {
             number,
             serving,
@@ -354,7 +366,7 @@ pub fn attend<'a, 'r, H: Threads + Wait + Sync, C: Channel + Drop, P: Clients<C>
 ) -> Crew
     requires crew { IsCrewOf worker.now.map.now crew }
     requires serves { P.serves worker.now.map.now }
-    ensures life { HasLived C.state P.gave worker.now.registry.now crew result }
+    ensures life { HasLived C.state P.gave worker.now.registry.now state.now.password crew result }
     ensures there { CountGoes (P.there worker.now.registry.now) clients.old 0 clients.new 0 }
     ensures over { P.over clients.new }
     ensures crew { IsCrewOf worker.now.map.now result }
@@ -362,7 +374,7 @@ pub fn attend<'a, 'r, H: Threads + Wait + Sync, C: Channel + Drop, P: Clients<C>
 {
     let number = crew.worker;
     let mut attendant: Attendant<'a, 'r, C> = begun(worker, scripts, state, crew);
-    attendant.attend_all(worker, clients);
+    attendant.attend_all(worker, state, clients);
     attendant.drop_all(clients);
     let Attendant { room, .. } = attendant;
     let Room { serving, .. } = room;

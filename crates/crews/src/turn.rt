@@ -62,8 +62,8 @@ fn time_of<C: Channel, P: Clients<C>>(clients: &mut P, talk: &Talk<'_>) -> u64
 
 /// How a client left that is given up now, when it is still owed this number of bytes.
 fn parting_of(leaving: Option<Parting>, owed: usize) -> Parting
-    ensures { (talk : TheTalk) (exchanges : List (TheExchange Station)) (read written rest : List ℕ) → length rest ≡ owed
-        → SaysSo leaving talk exchanges read (written ++ rest) → PartsSo (protocol_of talk) result exchanges read written }
+    ensures { (password : Option (List ℕ)) (talk : TheTalk) (exchanges : List (TheExchange Station)) (read written rest : List ℕ) → length rest ≡ owed
+        → SaysSo password leaving talk exchanges read (written ++ rest) → PartsSo password (protocol_of talk) result exchanges read written }
 {
     match leaving {
         Some(Parting::Ended(SessionEnd::WriteFailed)) => Parting::Ended(SessionEnd::WriteFailed),
@@ -125,8 +125,8 @@ impl<'a, C: Channel> Client<'a, C> {
         ensures desk { room.new.desk ≡ room.old.desk }
         ensures speaks { protocol_of self.new.talk ≡ protocol_of self.old.talk }
         ensures unfailed { self.new.leaving ≡ None → self.new.owed.failures ≡ 0 }
-        ensures says { (exchanges : List (TheExchange Station)) (read said : List ℕ) → SaysSo None self.old.talk exchanges read said
-            → SaysMore (known room.old.serving) (known room.new.serving) exchanges self.old.tokens self.new.tokens
+        ensures says { (password : Option (List ℕ)) (exchanges : List (TheExchange Station)) (read said : List ℕ) → SaysSo password None self.old.talk exchanges read said
+            → SaysMore password (known room.old.serving) (known room.new.serving) exchanges self.old.tokens self.new.tokens
             self.new.talk self.new.leaving (read ++ take count room.old.piece) said self.old.owed.rest self.new.owed.rest }
     {
         self.leaving = match &mut self.talk {
@@ -170,9 +170,9 @@ impl<'a, C: Channel> Client<'a, C> {
         ensures number { self.new.number ≡ self.old.number }
         ensures desk { room.new.desk ≡ room.old.desk }
         ensures there { (registry : TheRegistry) → CountGoes (P.there registry) clients.old 0 clients.new 0 }
-        ensures turns { (registry : TheRegistry) (came : Arrival C) (exchanges : List (TheExchange Station))
-            → Stands C.state registry came self.old.channel exchanges self.old.tokens self.old.talk self.old.owed self.old.leaving
-            → TurnsTo C.state registry (known room.old.serving) (known room.new.serving) came self.new.channel exchanges
+        ensures turns { (registry : TheRegistry) (password : Option (List ℕ)) (came : Arrival C) (exchanges : List (TheExchange Station))
+            → Stands C.state registry password came self.old.channel exchanges self.old.tokens self.old.talk self.old.owed self.old.leaving
+            → TurnsTo C.state registry password (known room.old.serving) (known room.new.serving) came self.new.channel exchanges
             self.new.tokens self.new.talk self.new.owed self.new.leaving }
     {
         if self.leaving.is_some() || self.is_held_back() {
@@ -203,9 +203,9 @@ impl<'a, C: Channel> Client<'a, C> {
     /// Sends what is owed, as far as the connection takes it now.
     fn tell(&mut self, alloc: Global)
         ensures number { self.new.number ≡ self.old.number }
-        ensures stands { (registry : TheRegistry) (came : Arrival C) (exchanges : List (TheExchange Station))
-            → Stands C.state registry came self.old.channel exchanges self.old.tokens self.old.talk self.old.owed self.old.leaving
-            → Stands C.state registry came self.new.channel exchanges self.new.tokens self.new.talk self.new.owed self.new.leaving }
+        ensures stands { (registry : TheRegistry) (password : Option (List ℕ)) (came : Arrival C) (exchanges : List (TheExchange Station))
+            → Stands C.state registry password came self.old.channel exchanges self.old.tokens self.old.talk self.old.owed self.old.leaving
+            → Stands C.state registry password came self.new.channel exchanges self.new.tokens self.new.talk self.new.owed self.new.leaving }
     {
         let taking = self.owed.send_to(&mut self.channel);
         self.owed.settle(alloc);
@@ -227,9 +227,9 @@ impl<'a, C: Channel> Client<'a, C> {
         ensures number { self.new.number ≡ self.old.number }
         ensures desk { room.new.desk ≡ room.old.desk }
         ensures there { (registry : TheRegistry) → CountGoes (P.there registry) clients.old 0 clients.new 0 }
-        ensures turns { (registry : TheRegistry) (came : Arrival C) (exchanges : List (TheExchange Station))
-            → Stands C.state registry came self.old.channel exchanges self.old.tokens self.old.talk self.old.owed self.old.leaving
-            → TurnsTo C.state registry (known room.old.serving) (known room.new.serving) came self.new.channel exchanges
+        ensures turns { (registry : TheRegistry) (password : Option (List ℕ)) (came : Arrival C) (exchanges : List (TheExchange Station))
+            → Stands C.state registry password came self.old.channel exchanges self.old.tokens self.old.talk self.old.owed self.old.leaving
+            → TurnsTo C.state registry password (known room.old.serving) (known room.new.serving) came self.new.channel exchanges
             self.new.tokens self.new.talk self.new.owed self.new.leaving }
     {
         let was_held_back = self.is_held_back();
@@ -241,9 +241,9 @@ impl<'a, C: Channel> Client<'a, C> {
     /// The client is not read any more. Sends what it is owed, as far as the connection takes it now.
     pub fn let_go(&mut self, alloc: Global)
         ensures number { self.new.number ≡ self.old.number }
-        ensures stands { (registry : TheRegistry) (came : Arrival C) (exchanges : List (TheExchange Station))
-            → Stands C.state registry came self.old.channel exchanges self.old.tokens self.old.talk self.old.owed self.old.leaving
-            → Stands C.state registry came self.new.channel exchanges self.new.tokens self.new.talk self.new.owed self.new.leaving }
+        ensures stands { (registry : TheRegistry) (password : Option (List ℕ)) (came : Arrival C) (exchanges : List (TheExchange Station))
+            → Stands C.state registry password came self.old.channel exchanges self.old.tokens self.old.talk self.old.owed self.old.leaving
+            → Stands C.state registry password came self.new.channel exchanges self.new.tokens self.new.talk self.new.owed self.new.leaving }
     {
         if self.leaving.is_none() {
             self.leaving = Some(Parting::LetGo);
@@ -262,8 +262,8 @@ impl<'a, C: Channel> Client<'a, C> {
 
     /// Gives the client up, as it stands.
     pub fn part<P: Clients<C>>(self, clients: &mut P, pass: &Pass, seat: usize)
-        requires { (registry : TheRegistry) × (old : Known) × (turns : List Turn) × (new : Known) × (came : ℕ)
-            × (new.pass ≡ pass.now) × IsClient C.state P.gave registry old turns new came self }
+        requires { (registry : TheRegistry) × (password : Option (List ℕ)) × (old : Known) × (turns : List Turn) × (new : Known) × (came : ℕ)
+            × (new.pass ≡ pass.now) × IsClient C.state P.gave registry password old turns new came self }
         ensures there { CountGoes (P.there self.entry.tokens.registry) clients.old 1 clients.new 0 }
         ensures over { P.over clients.old → P.over clients.new }
     {

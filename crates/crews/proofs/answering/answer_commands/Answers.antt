@@ -8,7 +8,7 @@ use Rattle.crews.proofs.PieceLemmas.{commands_say}
 use Rattle.crews.proofs.answering.answer_commands.Goals as goal
 
 pub returns-clause-says : goal.returns-clause-says
-returns-clause-says g c exchanges tokens read said says =
+returns-clause-says g c password exchanges tokens read said says =
     let old = c.args.room.now.serving in
     let owed = c.args.owed.now in
     let piece = take c.args.count c.args.room.now.piece in
@@ -17,8 +17,8 @@ returns-clause-says g c exchanges tokens read said says =
     let left = c.leaving_talk.new.owed in
     let leaving = c.leaving_talk.result in
     let taken = c.answer_commands-taken.ensures in
-    subst (λ (team : List PassState). SaysMore (known old) (record { pass = new.pass; team = team }) exchanges tokens tokens (Commands next) leaving (read ++ piece) said owed.rest left.rest) (sym taken.team)
-    (commands_say c.answer_commands-taken.result tokens old.team old.pass new.pass c.args.room.now.now c.args.talk.now next piece leaving owed c.answer_commands-taken.new.sink left
+    subst (λ (team : List PassState). SaysMore password (known old) (record { pass = new.pass; team = team }) exchanges tokens tokens (Commands next) leaving (read ++ piece) said owed.rest left.rest) (sym taken.team)
+    (commands_say password c.answer_commands-taken.result tokens old.team old.pass new.pass c.args.room.now.now c.args.talk.now next piece leaving owed c.answer_commands-taken.new.sink left
     (omega (arith, c.requires.some, c.requires.within)) c.requires.is_open taken.same taken.numbers taken.ok taken.over
     (λ is. let (talk_is, still, kept) = taken.memory is in (talk_is, ap (λ (s : Station). s.pass) still, kept))
     taken.write c.leaving_talk.ensures exchanges read said says)

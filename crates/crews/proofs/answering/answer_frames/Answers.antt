@@ -8,7 +8,7 @@ use Rattle.crews.proofs.PieceLemmas.{piece_says, says_around}
 use Rattle.crews.proofs.answering.answer_frames.Goals as goal
 
 pub returns-clause-says : goal.returns-clause-says
-returns-clause-says g c exchanges read said says =
+returns-clause-says g c password exchanges read said says =
     let room = c.args.room.now in
     let owed = c.args.owed.now in
     let tokens = c.args.tokens.now in
@@ -19,10 +19,10 @@ returns-clause-says g c exchanges read said says =
     let leaving = c.leaving_after.result in
     let held = c.resume.new.self in
     let next = c.take-taken.new.self in
-    let m : SaysMore (known s1) (known s2) exchanges s1.tokens s2.tokens (Frames next) leaving (read ++ piece) said owed.rest c.leaving_after.new.owed.rest =
-    piece_says taken s1 s2 held next piece leaving owed c.take-taken.new.sink c.leaving_after.new.owed (omega (arith, c.requires.some, c.requires.within))
+    let m : SaysMore password (known s1) (known s2) exchanges s1.tokens s2.tokens (Frames next) leaving (read ++ piece) said owed.rest c.leaving_after.new.owed.rest =
+    piece_says password taken s1 s2 held next piece leaving owed c.take-taken.new.sink c.leaving_after.new.owed (omega (arith, c.requires.some, c.requires.within))
     c.take-taken.ensures.ok c.take-taken.ensures.refused c.take-taken.ensures.memory c.take-taken.ensures.write c.leaving_after.ensures
-    exchanges read said (subst (λ (h : Held). SaysSo None (Frames h) exchanges read said) (sym c.resume.ensures.here) says) in
-    subst (λ (h : Held). SaysMore (known room.serving) (known c.lend-2.new.self) exchanges tokens c.lend-2.new.tokens (Frames h) leaving (read ++ piece) said owed.rest c.leaving_after.new.owed.rest) (sym c.resume-2.ensures.there)
-    (says_around room.serving s1 s2 c.lend-2.new.self tokens c.lend.new.tokens c.lend-2.new.tokens (Frames next) leaving exchanges (read ++ piece) said owed.rest c.leaving_after.new.owed.rest
+    exchanges read said (subst (λ (h : Held). SaysSo password None (Frames h) exchanges read said) (sym c.resume.ensures.here) says) in
+    subst (λ (h : Held). SaysMore password (known room.serving) (known c.lend-2.new.self) exchanges tokens c.lend-2.new.tokens (Frames h) leaving (read ++ piece) said owed.rest c.leaving_after.new.owed.rest) (sym c.resume-2.ensures.there)
+    (says_around password room.serving s1 s2 c.lend-2.new.self tokens c.lend.new.tokens c.lend-2.new.tokens (Frames next) leaving exchanges (read ++ piece) said owed.rest c.leaving_after.new.owed.rest
     c.lend.ensures.here c.lend-2.ensures.here c.lend-2.ensures.there m)

@@ -15,7 +15,7 @@ attend_all-requires-clause-attended g c κs within =
     let start = known_of c.args.crew in
     let first = c.begun-attendant.result in
     let is = c.begun-attendant.ensures in
-    (start, [], begins g.C.Channel.state g.P.Clients.gave c.args.worker.now.registry.now start (known first.room.serving) first.came is.knows is.came first.seats is.empty)
+    (start, [], begins g.C.Channel.state g.P.Clients.gave c.args.worker.now.registry.now c.args.state.now.password start (known first.room.serving) first.came is.knows is.came first.seats is.empty)
 
 pub attend_all-requires-clause-serves : goal.attend_all-requires-clause-serves
 attend_all-requires-clause-serves g c κs within =
@@ -30,20 +30,20 @@ drop_all-requires g c =
     let start = known_of c.args.crew in
     let first = c.begun-attendant.result in
     let is = c.begun-attendant.ensures in
-    let (more, now) = c.attend_all.ensures.attended start [] (begins g.C.Channel.state g.P.Clients.gave c.args.worker.now.registry.now start (known first.room.serving) first.came is.knows is.came first.seats is.empty) in
-    record { attended = (c.args.worker.now.registry.now, start, more, now) }
+    let (more, now) = c.attend_all.ensures.attended start [] (begins g.C.Channel.state g.P.Clients.gave c.args.worker.now.registry.now c.args.state.now.password start (known first.room.serving) first.came is.knows is.came first.seats is.empty) in
+    record { attended = (c.args.worker.now.registry.now, c.args.state.now.password, start, more, now) }
 
 pub returns-clause-life : goal.returns-clause-life
 returns-clause-life g c =
     let start = known_of c.args.crew in
     let first = c.begun-attendant.result in
     let is = c.begun-attendant.ensures in
-    let (more, now) = c.attend_all.ensures.attended start [] (begins g.C.Channel.state g.P.Clients.gave c.args.worker.now.registry.now start (known first.room.serving) first.came is.knows is.came first.seats is.empty) in
-    let (life, seated) = c.drop_all.ensures.attended c.args.worker.now.registry.now start more now in
+    let (more, now) = c.attend_all.ensures.attended start [] (begins g.C.Channel.state g.P.Clients.gave c.args.worker.now.registry.now c.args.state.now.password start (known first.room.serving) first.came is.knows is.came first.seats is.empty) in
+    let (life, seated) = c.drop_all.ensures.attended c.args.worker.now.registry.now c.args.state.now.password start more now in
     let end = c.drop_all.new.self in (
       more,
       end.came,
-      subst (λ (k : Known). Life g.C.Channel.state g.P.Clients.gave c.args.worker.now.registry.now start more k end.came) (sym (known_same (record { pass = c.serving.inside.pass; team = c.in-Ok.team.passes.items }) (known end.room.serving)
+      subst (λ (k : Known). Life g.C.Channel.state g.P.Clients.gave c.args.worker.now.registry.now c.args.state.now.password start more k end.came) (sym (known_same (record { pass = c.serving.inside.pass; team = c.in-Ok.team.passes.items }) (known end.room.serving)
           (ap (λ (t : Station). t.pass) c.serving.view_is) (ap (λ ps. ps.items) c.in-Ok.ensures.team ∙ ap (λ (t : Station). t.team) c.serving.view_is))) life,
     )
 
@@ -52,8 +52,8 @@ returns-clause-crew g c =
     let start = known_of c.args.crew in
     let first = c.begun-attendant.result in
     let is = c.begun-attendant.ensures in
-    let (more, now) = c.attend_all.ensures.attended start [] (begins g.C.Channel.state g.P.Clients.gave c.args.worker.now.registry.now start (known first.room.serving) first.came is.knows is.came first.seats is.empty) in
-    let (life, seated) = c.drop_all.ensures.attended c.args.worker.now.registry.now start more now in
+    let (more, now) = c.attend_all.ensures.attended start [] (begins g.C.Channel.state g.P.Clients.gave c.args.worker.now.registry.now c.args.state.now.password start (known first.room.serving) first.came is.knows is.came first.seats is.empty) in
+    let (life, seated) = c.drop_all.ensures.attended c.args.worker.now.registry.now c.args.state.now.password start more now in
     let pass = ap (λ (t : Station). t.pass.map) c.serving.view_is ∙ life.numbers.map_is ∙ c.requires.crew.pass in
     let here : c.serving.inside.map.now ≡ c.args.worker.now.map.now = sym c.serving.invariant.0 ∙ pass in
     record {
@@ -67,8 +67,8 @@ returns-clause-same g c =
     let start = known_of c.args.crew in
     let first = c.begun-attendant.result in
     let is = c.begun-attendant.ensures in
-    let (more, now) = c.attend_all.ensures.attended start [] (begins g.C.Channel.state g.P.Clients.gave c.args.worker.now.registry.now start (known first.room.serving) first.came is.knows is.came first.seats is.empty) in
-    let (life, seated) = c.drop_all.ensures.attended c.args.worker.now.registry.now start more now in
+    let (more, now) = c.attend_all.ensures.attended start [] (begins g.C.Channel.state g.P.Clients.gave c.args.worker.now.registry.now c.args.state.now.password start (known first.room.serving) first.came is.knows is.came first.seats is.empty) in
+    let (life, seated) = c.drop_all.ensures.attended c.args.worker.now.registry.now c.args.state.now.password start more now in
     record {
       worker = refl;
       pass = ap (λ (t : Station). t.pass.view.numbers) c.serving.view_is ∙ life.numbers.pass;
@@ -83,7 +83,7 @@ returns-clause-there g c =
     let end = slab_len c.drop_all.new.self.seats in
     let first = c.begun-attendant.result in
     let is = c.begun-attendant.ensures in
-    let (more, now) = c.attend_all.ensures.attended (known_of c.args.crew) [] (begins g.C.Channel.state g.P.Clients.gave c.args.worker.now.registry.now (known_of c.args.crew) (known first.room.serving) first.came is.knows is.came first.seats is.empty) in
+    let (more, now) = c.attend_all.ensures.attended (known_of c.args.crew) [] (begins g.C.Channel.state g.P.Clients.gave c.args.worker.now.registry.now c.args.state.now.password (known_of c.args.crew) (known first.room.serving) first.came is.knows is.came first.seats is.empty) in
     let none = ap (count_by is_some) c.begun-attendant.ensures.empty in
     counts_by there c.args.clients.now c.drop_all.new.clients start end 0 0 0 (omega (arith, none)) (omega (arith, c.drop_all.ensures.empty))
-    (counts_on there c.args.clients.now c.attend_all.new.clients c.drop_all.new.clients start mid end c.attend_all.ensures.there (c.drop_all.ensures.there c.args.worker.now.registry.now (known_of c.args.crew) more now))
+    (counts_on there c.args.clients.now c.attend_all.new.clients c.drop_all.new.clients start mid end c.attend_all.ensures.there (c.drop_all.ensures.there c.args.worker.now.registry.now c.args.state.now.password (known_of c.args.crew) more now))

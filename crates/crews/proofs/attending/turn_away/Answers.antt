@@ -1,4 +1,4 @@
-use Rattle.std.proofs.Common.{refl, sym, subst}
+use Rattle.std.proofs.Common.{None, refl, sym, subst}
 use Rattle.crews.specs.declared.clients.Parting.TheVariants.{NotKept}
 use Rattle.crews.specs.Lives.{HasParted}
 use Rattle.crews.specs.Stations.{KeptTokens}
@@ -10,4 +10,4 @@ pub ended-requires : goal.ended-requires
 ended-requires g c =
     let (came, given, same) = c.requires.came in
     subst (λ (t : KeptTokens). HasParted g.C.Channel.state g.P.Clients.gave c.args.pass.now c.tell_away.new.channel t NotKept) (sym c.requires.none)
-    (turned_away g.C.Channel.state g.P.Clients.gave c.args.tokens.registry c.args.pass.now (arrived came c.args.protocol) c.args.channel c.tell_away.new.channel c.tell_away.result (not_kept_told c.args.protocol) given same refl c.tell_away.ensures)
+    (turned_away g.C.Channel.state g.P.Clients.gave c.args.tokens.registry None c.args.pass.now (arrived came c.args.protocol) c.args.channel c.tell_away.new.channel c.tell_away.result (not_kept_told c.args.protocol) given same refl c.tell_away.ensures)

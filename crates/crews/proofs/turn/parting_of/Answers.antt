@@ -4,10 +4,10 @@ use Rattle.crews.proofs.TurnLemmas.{any_cut, cut_front}
 use Rattle.crews.proofs.turn.parting_of.Goals as goal
 
 pub returns-in_default : goal.returns-in_default
-returns-in_default c talk exchanges read written rest long says = cut_front (protocol_of talk) exchanges read written rest (any_cut c.args.leaving talk exchanges read (written ++ rest) says)
+returns-in_default c password talk exchanges read written rest long says = cut_front password (protocol_of talk) exchanges read written rest (any_cut password c.args.leaving talk exchanges read (written ++ rest) says)
 
 pub returns-in_default-2 : goal.returns-in_default-2
-returns-in_default-2 c talk exchanges read written rest long says = cut_front (protocol_of talk) exchanges read written rest (any_cut c.args.leaving talk exchanges read (written ++ rest) says)
+returns-in_default-2 c password talk exchanges read written rest long says = cut_front password (protocol_of talk) exchanges read written rest (any_cut password c.args.leaving talk exchanges read (written ++ rest) says)
 
 pub returns-in_default-4 : goal.returns-in_default-4
-returns-in_default-4 c talk exchanges read written rest long says = cut_front (protocol_of talk) exchanges read written rest (any_cut c.args.leaving talk exchanges read (written ++ rest) says)
+returns-in_default-4 c password talk exchanges read written rest long says = cut_front password (protocol_of talk) exchanges read written rest (any_cut password c.args.leaving talk exchanges read (written ++ rest) says)

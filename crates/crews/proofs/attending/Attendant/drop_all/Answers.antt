@@ -8,8 +8,8 @@ loop-seat-preserved g c =
     let seats = c.loop-seat.self.seats in
     let after = c.drop_one.new.self.seats in
     record {
-      attended = λ registry old turns attended. c.drop_one.ensures.attended registry old turns (here.attended registry old turns attended);
-      there = λ registry old turns attended. counts_on (g.P.Clients.there registry) c.args.clients.now c.loop-seat.clients c.drop_one.new.clients (slab_len c.args.self.now.seats) (slab_len seats) (slab_len after) (here.there registry old turns attended) (c.drop_one.ensures.there registry old turns (here.attended registry old turns attended));
+      attended = λ registry password old turns attended. c.drop_one.ensures.attended registry password old turns (here.attended registry password old turns attended);
+      there = λ registry password old turns attended. counts_on (g.P.Clients.there registry) c.args.clients.now c.loop-seat.clients c.drop_one.new.clients (slab_len c.args.self.now.seats) (slab_len seats) (slab_len after) (here.there registry password old turns attended) (c.drop_one.ensures.there registry password old turns (here.attended registry password old turns attended));
       over = λ over. c.drop_one.ensures.over (here.over over);
       below = one_more_empty seats after c.loop-seat.seat c.drop_one.ensures.gone c.drop_one.ensures.others here.below;
       above = λ seat high. c.drop_one.ensures.others seat (here.above seat high);

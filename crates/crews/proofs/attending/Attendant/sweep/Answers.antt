@@ -11,7 +11,7 @@ returns-clause-there g c registry =
     counts_by (g.P.Clients.there registry) c.args.clients.now c.now-self.new.self 0 0 n n n (omega arith) (omega arith) (c.now-self.ensures registry)
 
 pub returns-clause-attended : goal.returns-clause-attended
-returns-clause-attended g c registry old turns attended =
+returns-clause-attended g c registry password old turns attended =
     let s = c.args.self.now in
     let is = c.sweep-self.ensures in
-    has_swept g.C.Channel.state g.P.Clients.gave registry old turns (known s.room.serving) (known c.sweep-self.new.self.serving) s.came c.now-self.result s.seats is.sweeps is.same is.numbers is.team attended
+    has_swept g.C.Channel.state g.P.Clients.gave registry password old turns (known s.room.serving) (known c.sweep-self.new.self.serving) s.came c.now-self.result s.seats is.sweeps is.same is.numbers is.team attended

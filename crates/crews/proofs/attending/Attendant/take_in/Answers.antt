@@ -46,18 +46,18 @@ returns-clause-there g c =
 pub returns-in_default-reserve-clause-attended : goal.returns-in_default-reserve-clause-attended
 returns-in_default-reserve-clause-attended g c old turns attended =
     let s = c.args.self.now in
-    room_made g.C.Channel.state g.P.Clients.gave c.args.tokens.registry old turns (known s.room.serving) s.came s.seats c.reserve.new.self c.reserve.ensures.rest_kept attended
+    room_made g.C.Channel.state g.P.Clients.gave c.args.tokens.registry (lent c.args.password) old turns (known s.room.serving) s.came s.seats c.reserve.new.self c.reserve.ensures.rest_kept attended
 
 pub returns-in_default-watch-clause-attended : goal.returns-in_default-watch-clause-attended
 returns-in_default-watch-clause-attended g c old turns attended =
     let s = c.args.self.now in
-    room_made g.C.Channel.state g.P.Clients.gave c.args.tokens.registry old turns (known s.room.serving) s.came s.seats c.reserve.new.self c.reserve.ensures.rest_kept attended
+    room_made g.C.Channel.state g.P.Clients.gave c.args.tokens.registry (lent c.args.password) old turns (known s.room.serving) s.came s.seats c.reserve.new.self c.reserve.ensures.rest_kept attended
 
 pub returns-clause-attended : goal.returns-clause-attended
 returns-clause-attended g c old turns attended =
     let s = c.args.self.now in
     let client_is = subst (λ (t : KeptTokens). c.new-client.result ≡ record { number = s.came; channel = c.watch.new.channel; talk = c.new-talk.result; tokens = t; owed = record { rest = []; failures = 0 }; leaving = None }) c.requires.none c.new-client.ensures in
     let one : c.in-Some.came ≡ s.came + 1 = omega (arith, c.in-Some.ensures) in
-    subst (λ (n : ℕ). IsAttended g.C.Channel.state g.P.Clients.gave c.args.tokens.registry old turns (known s.room.serving) n c.insert_reserved.new.self) (sym one)
-    (one_comes g.C.Channel.state g.P.Clients.gave c.args.tokens.registry old turns (known s.room.serving) s.came c.next_number.result (lent s.password) s.seats c.reserve.new.self c.insert_reserved.new.self c.insert_reserved.result (arrived c.args.channel c.args.protocol) c.watch.new.channel c.new-talk.result c.new-client.result
+    subst (λ (n : ℕ). IsAttended g.C.Channel.state g.P.Clients.gave c.args.tokens.registry (lent c.args.password) old turns (known s.room.serving) n c.insert_reserved.new.self) (sym one)
+    (one_comes g.C.Channel.state g.P.Clients.gave c.args.tokens.registry (lent c.args.password) old turns (known s.room.serving) s.came c.next_number.result s.seats c.reserve.new.self c.insert_reserved.new.self c.insert_reserved.result (arrived c.args.channel c.args.protocol) c.watch.new.channel c.new-talk.result c.new-client.result
     c.requires.gave c.watch.ensures.channel c.new-talk.ensures client_is c.reserve.ensures.rest_kept c.insert_reserved.ensures.updates attended)

@@ -8,7 +8,7 @@ use Rattle.crews.proofs.turn.Client.part.Goals as goal
 
 pub ended-requires : goal.ended-requires
 ended-requires g c =
-    let (registry, old, turns, new, n, knows, (low, (came, come, stands))) = c.requires in
+    let (registry, password, old, turns, new, n, knows, (low, (came, come, stands))) = c.requires in
     let s = c.args.self in
     record {
       old = old;
@@ -23,5 +23,6 @@ ended-requires g c =
       consumed = stands.consumed;
       appended = stands.appended;
       keeps = subst (λ (r : Registry). KeepsTokens (no_tokens r) (exchanges_of s.number turns) s.tokens) (sym stands.of) stands.keeps;
-      parts = subst (λ (protocol : Protocol). PartsSo protocol c.parting_of-parting.result (exchanges_of s.number turns) stands.read stands.written) stands.speaks (c.parting_of-parting.ensures s.talk (exchanges_of s.number turns) stands.read stands.written s.owed.rest (sym c.len.ensures) stands.says);
+      password = password;
+      parts = subst (λ (protocol : Protocol). PartsSo password protocol c.parting_of-parting.result (exchanges_of s.number turns) stands.read stands.written) stands.speaks (c.parting_of-parting.ensures password s.talk (exchanges_of s.number turns) stands.read stands.written s.owed.rest (sym c.len.ensures) stands.says);
     }
