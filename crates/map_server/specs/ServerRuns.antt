@@ -95,35 +95,36 @@ abbrev pub AnyComes : PassState → Connection → Protocol → Type 0
 AnyComes pass connection protocol = Unit {0}
 
 -- the crew came back with the numbers that it had: turns of its own clients, whose programs are all of this registry, and its own sweeps moved it, and
--- nothing else; there may have been none
-pub record HasAttended (registry : Registry) (old new : Crew) : Type 0 where
+-- nothing else; there may have been none. Clients of commands had to show this password, if there is one
+pub record HasAttended (registry : Registry) (password : Option (List ℕ)) (old new : Crew) : Type 0 where
   pub same : CarriesSame old new
-  pub lived : HasLived tells_none AnyComes registry old new
+  pub lived : HasLived tells_none AnyComes registry password old new
 
 -- each crew came back so
-abbrev pub HaveAttended : Registry → List Crew → List Crew → Type 0
-HaveAttended registry olds news = Pairwise (HasAttended registry) olds news
+abbrev pub HaveAttended : Registry → Option (List ℕ) → List Crew → List Crew → Type 0
+HaveAttended registry password olds news = Pairwise (HasAttended registry password) olds news
 
 -- these crews came back so; or memory was refused, and nobody was served
-abbrev pub ServedBy : Registry → List Crew → Served → Type 0
-ServedBy registry crews served = IfOk served.crews (λ back. HaveAttended registry crews back.items)
+abbrev pub ServedBy : Registry → Option (List ℕ) → List Crew → Served → Type 0
+ServedBy registry password crews served = IfOk served.crews (λ back. HaveAttended registry password crews back.items)
 
 -- `ready` can't be printed; or it is, then this is served, an end of serving is seen, and then it is printed
 abbrev pub ServesReady : (Served → Type 0) → Registry → Ready → SinkState → SinkState → ℕ → Type 0
 ServesReady saw registry ready old new status =
     ((status ≡ 3) × TakesFront old new (codes "ready\n"))
-    ⊎ ((served : Served) × saw served × HasServed ready served × ServedBy registry ready.crews.items served × EndsServing served old new (codes "ready\n") status)
+    ⊎ ((served : Served) × saw served × HasServed ready served × ServedBy registry ready.password ready.crews.items served × EndsServing served old new (codes "ready\n") status)
 
 -- over which listener is bound to which address, and which end of serving was seen
 module _ (bound : TcpListener → List ℕ → Type 0) (saw : Served → Type 0) where
   -- `ready` can't be printed; or it is, then a server as it is asked for, whose ports are bound to the addresses asked for, serves clients, and
-  -- then how that ended is printed
+  -- then how that ended is printed. If there is a file of a password, clients of commands have to show one
   abbrev pub ServesClients : MapdWords → SinkState → SinkState → ℕ → Type 0
   ServesClients asked old new status =
       ((status ≡ 3) × TakesFront old new (codes "ready\n"))
       ⊎ ((server : Server) × (served : Served) × (numbers : Option TcpListener)
       × IsAsked asked server × AreAskedTerms asked served.terms × HasPorts bound asked served.ports numbers
-      × (saw served × ServedBy server.registry server.crews.items served × EndsServing served old new (codes "ready\n") status))
+      × (is_some server.password ≡ is_some asked.password_file)
+      × (saw served × ServedBy server.registry server.password server.crews.items served × EndsServing served old new (codes "ready\n") status))
 
 -- the line of a refusal with this number
 abbrev pub refusal_line : ℕ → List ℕ

@@ -7,6 +7,7 @@ use Rattle.crews.specs.declared.crew.Crew.{Crew}
 use Rattle.crews.specs.Crews.{IsCrewOf}
 use Rattle.map_keeper.specs.declared.keeper.Shared.{Shared}
 use Rattle.map_keeper.specs.Keepers.{pass_of}
+use Rattle.map_server.specs.Memory.{shares_of}
 use Rattle.map_server.specs.declared.ports.Ports.{Ports}
 use Rattle.map_server.specs.declared.ready.Ready.{Ready}
 use Rattle.map_server.specs.declared.server.Protocols.{Protocols}
@@ -64,14 +65,15 @@ pub record HasServed (ready : Ready) (served : Served) : Type 0 where
   pub ports : served.ports ≡ ready.gates.ports
   pub terms : AreTerms ready served.terms
 
--- clients were served on the terms that are asked for: this number of sessions for each worker, within these limits, which also say what is
--- kept for SLOWLOG, this number of seconds from one save to the next, a password if there is a file of one, and numbers if there is a port for
--- them
+-- clients were served on the terms that are asked for: this number of sessions for each worker, within these limits, which also say what
+-- is kept for SLOWLOG and what may be kept for clients, this number of seconds from one save to the next, a password if there is a file of
+-- one, and numbers if there is a port for them
 pub record AreAskedTerms (asked : MapdWords) (terms : Terms) : Type 0 where
   pub sessions : terms.sessions ≡ asked.sessions
   pub clients : terms.limits.clients ≡ asked.clients
   pub idle : terms.limits.idle ≡ asked.idle
   pub slow : terms.limits.slow ≡ asked.slowlog_microseconds
+  pub memory : terms.limits.session_bytes ≡ (shares_of asked.memory).sessions
   pub password : terms.has_password ≡ is_some asked.password_file
   pub keeps : terms.keeps ≡ (if is_some asked.keep then Some asked.keep_seconds else None)
   pub watches : terms.watches ≡ is_some asked.metrics
@@ -88,6 +90,7 @@ pub record IsAsked (asked : MapdWords) (server : Server) : Type 0 where
   pub clients : server.limits.clients ≡ asked.clients
   pub idle : server.limits.idle ≡ asked.idle
   pub slow : server.limits.slow ≡ asked.slowlog_microseconds
+  pub memory : server.limits.session_bytes ≡ (shares_of asked.memory).sessions
   pub protocols : server.protocols ≡ protocols_of asked
   pub scripts : server.scripts ≡ asked.programs
   pub keeper : is_some server.keeper ≡ is_some asked.keep

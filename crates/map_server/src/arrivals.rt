@@ -19,6 +19,8 @@ pub struct Limits {
     pub idle: Option<u64>,
     /// From how many microseconds on a command of Redis is kept for SLOWLOG; none: none is.
     pub slow: Option<u64>,
+    /// How many bytes may be kept for all clients between their turns, before those that need most are let go.
+    pub session_bytes: u64,
 }
 
 /// No limits.
@@ -26,6 +28,7 @@ pub(crate) const NO_LIMITS: Limits = Limits {
     clients: u64::MAX,
     idle: None,
     slow: None,
+    session_bytes: u64::MAX,
 };
 
 /// What follows from a failed accept.

@@ -77,7 +77,8 @@ impl<'a, 'b, H: Wait + Clock, E: Sink> Entrance<'a, 'b, H, E> {
         gates: Gates,
         quotas: Quotas,
     ) -> Entrance<'a, 'b, H, E>
-        ensures { result.ports ≡ gates.ports }
+        ensures ports { result.ports ≡ gates.ports }
+        ensures state { result.state.now ≡ state.now }
     {
         let Gates { ports, wakers } = gates;
         let spare = Mutex::new(spare_of(&ports));

@@ -14,6 +14,7 @@ mod door;
 mod doors;
 mod entrance;
 mod keeping;
+mod memory;
 mod metrics;
 mod opening;
 mod passwords;
@@ -51,6 +52,7 @@ pub use map_commands::{
     hex_bytes, parse_words, report_of, tell_unread_words, unit_lines,
 };
 pub use map_keeper::{HostFiles, KeepFault, KeptFile, OnDisk, Opener};
+pub use memory::Shares;
 pub use opening::open_server;
 pub use passwords::PasswordFiles;
 pub use ports::{Binder, Ports, first_listener};

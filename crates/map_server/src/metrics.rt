@@ -210,7 +210,7 @@ impl<'a, H: Wait + Clock> Watcher<'a, H> {
             longest_hold_micros: self.map.longest_hold_micros(),
             row_bytes: occupied.rows,
             index_bytes: occupied.index,
-            program_bytes: self.registry.bytes(),
+            program_bytes: self.registry.bytes(self.rt),
             session_bytes: counts.session_bytes,
             uptime_seconds: self.clock.look().saturating_sub(state.began()) / 1000,
         }

@@ -17,7 +17,7 @@ use bins::Seed;
 use bpf_model::NoMemory;
 use bulk_walks::Team;
 use crews::Crew;
-use program_registry::Registry;
+use program_registry::{Bounds, Registry};
 use server_state::Password;
 use std::alloc::Global;
 
@@ -107,7 +107,12 @@ fn server_of(
     let mut passes = passes;
     let keeper = pass_if(&map, asked.keep.is_some(), &mut passes);
     let watcher = pass_if(&map, asked.metrics.is_some(), &mut passes);
-    let registry = Registry::bounded(alloc, asked.programs as usize)?;
+    let shares = asked.shares();
+    let bounds = Bounds {
+        programs: asked.programs as usize,
+        bytes: shares.programs,
+    };
+    let registry = Registry::bounded(alloc, bounds)?;
     let crews = crews_of(
         alloc,
         &map,
@@ -120,6 +125,7 @@ fn server_of(
         clients: asked.clients,
         idle: asked.idle,
         slow: asked.slowlog_microseconds,
+        session_bytes: shares.sessions,
     };
     Ok(Server {
         map,
@@ -159,7 +165,7 @@ pub fn open_server(alloc: Global, asked: &MapdWords, seed: Seed) -> Result<Serve
         asked.stripes,
         asked.passes(),
         seed,
-        asked.budget(),
+        asked.shares().entries,
     )?;
     Ok(server_of(alloc, asked, map, passes)?)
 }

@@ -89,17 +89,18 @@ impl Served {
     }
 }
 
-/// What all threads know of a server that began at this time, and keeps commands for SLOWLOG from this number of microseconds on, if there
-/// is one. `NoMemory` if a request for memory was refused.
+/// What all threads know of a server that began at this time, keeps this much for its clients, and keeps commands for SLOWLOG from this
+/// number of microseconds on, if there is one. `NoMemory` if a request for memory was refused.
 fn state_of(
     alloc: Global,
     workers: u64,
     keeps: bool,
     began: u64,
-    slow: Option<u64>,
+    limits: &Limits,
 ) -> Result<ServerState, NoMemory> {
     let state = ServerState::new(alloc, workers, keeps, began)?;
-    match slow {
+    let state = state.with_session_bytes(limits.session_bytes);
+    match limits.slow {
         None => Ok(state),
         Some(least) => Ok(state.with_slow_log(SlowLog::from(alloc, least)?)),
     }
@@ -164,7 +165,7 @@ pub(crate) fn serve_ports<'a, H: Threads + Wait + Clock + Sync, E: Sink + Send>(
     errors: Telling<'a, E>,
 ) -> (Served, Telling<'a, E>)
     requires { CanServe shared.now ready }
-    ensures crews { IfOk result.0.crews (λ back. HaveAttended shared.now.registry.now ready.entry.crews.items back.items) }
+    ensures crews { IfOk result.0.crews (λ back. HaveAttended shared.now.registry.now ready.entry.password ready.entry.crews.items back.items) }
     ensures served { HasServed ready.entry result.0 }
 {
     let terms = Terms::of(&ready);
@@ -181,7 +182,7 @@ pub(crate) fn serve_ports<'a, H: Threads + Wait + Clock + Sync, E: Sink + Send>(
     } = ready;
     let began = WallClock::new(rt).look();
     let workers = crews.len() as u64;
-    let Ok(state) = state_of(alloc, workers, kept.is_some(), began, limits.slow) else {
+    let Ok(state) = state_of(alloc, workers, kept.is_some(), began, &limits) else {
         return (nobody_served(gates, terms), errors);
     };
     let state = state.with_password(password);

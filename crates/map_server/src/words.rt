@@ -3,9 +3,11 @@ ghost use Rattle.std.specs.Prelude.{◌≡◌, true, false, Some, IfOk, IfErr, c
 ghost use Rattle.clap.specs.Words.{app_of, fault_of, first_of, found_of, one_of, rows_of, rule_of, HasKind};
 ghost use Rattle.clap.specs.Walk.{texts};
 ghost use Rattle.map_commands.specs.CommandLine.{size_option, spelled_size};
+ghost use Rattle.map_server.specs.Memory.{shares_of};
 ghost use Rattle.map_server.specs.Servers.{passes_of, protocols_of};
 ghost use Rattle.map_server.specs.ServerWords.{text_option, gives_redis, mapd, reader_of, AsksFor, AsksServer, IsFaultOf, IsInRange, IsWordsFault};
 
+use crate::memory::Shares;
 use crate::server::Protocols;
 use bpf_model::NoMemory;
 use clap::builder::ValueParser;
@@ -37,7 +39,7 @@ pub struct MapdWords {
     pub idle: Option<u64>,
     /// How many different programs clients may register, and how many scripts they may load.
     pub programs: u64,
-    /// How many MiB entries and sessions may take; none: there is no bound.
+    /// How many MiB entries, programs and sessions may take; none: there is no bound.
     pub memory: Option<u64>,
     /// The file in which entries, programs and scripts are kept; none: nothing is kept.
     pub keep: Option<String>,
@@ -69,11 +71,11 @@ impl MapdWords {
         }
     }
 
-    /// How many bytes the rows and the index of all entries may take; none: there is no bound. A fiftieth of the memory, and at least
-    /// 4 MiB, is left to sessions, so that a full server still takes clients.
-    pub(crate) fn budget(&self) -> Option<u64> {
-        let bytes = self.memory?.saturating_mul(MEBIBYTE);
-        Some(bytes.saturating_sub((bytes / SESSIONS_PART).max(SESSIONS_LEAST)))
+    /// What entries, programs and sessions may take.
+    pub(crate) fn shares(&self) -> Shares
+        ensures { result ≡ shares_of self.now.memory }
+    {
+        Shares::of(self.memory)
     }
 
     /// How many passes the map has: one for each worker, one for each member of its team, one that keeps it in a file, if it is
@@ -143,15 +145,6 @@ const CLIENTS_DEFAULT: u16 = 1000;
 
 /// The number of different programs, if none is given.
 const PROGRAMS_DEFAULT: u64 = 65_536;
-
-/// The bytes of a MiB.
-const MEBIBYTE: u64 = 1 << 20;
-
-/// One of this many parts of the memory is left to sessions.
-const SESSIONS_PART: u64 = 50;
-
-/// At least this many bytes of the memory are left to sessions.
-const SESSIONS_LEAST: u64 = 4 * MEBIBYTE;
 
 /// The seconds between two saves, if no number is given.
 const KEEP_SECONDS_DEFAULT: u16 = 1;
@@ -293,7 +286,7 @@ fn mapd_command<'a>(alloc: Global, wanted: bool) -> Result<clap::Command<'a>, Al
             "memory",
             "MIB",
             value_parser!(u16).range(1..=65535),
-            "MiB of entries and sessions, 1 to 65535; past it a new key is refused with 9 [default: no bound]",
+            "MiB of entries, programs and sessions, 1 to 65535; past it a new key or program is refused with 9 [default: no bound]",
         ))?
         .arg(text_option(
             alloc,

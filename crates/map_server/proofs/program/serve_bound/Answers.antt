@@ -26,11 +26,13 @@ returns g c =
               clients = ap (λ limits. limits.clients) terms.limits ∙ asked.clients;
               idle = ap (λ limits. limits.idle) terms.limits ∙ asked.idle;
               slow = ap (λ limits. limits.slow) terms.limits ∙ asked.slow;
+              memory = ap (λ limits. limits.session_bytes) terms.limits ∙ asked.memory;
               password = terms.password ∙ c.requires.password;
               keeps = terms.keeps ∙ c.in-Ok.ensures.keeps;
               watches = terms.watches ∙ (c.of.ensures.there (watched ∙ sym asked.watcher) ∙ asked.watcher);
             },
             subst (λ ports. HasPorts g.K.Binder.bound c.args.asked.now ports c.args.bound.0.metrics) (sym was.ports) c.requires.ports,
+            c.requires.password,
             (ended.1, ended.3, ended.4),
           )
     ])
