@@ -183,6 +183,17 @@ fn is_kept<T: Tried>(
     Ok(given && found && is_wanted(&beside, Bytes(b"other")))
 }
 
+/// Plays the row on a table of its own.
+fn is_kept_anew<T: Tried + Drop>(
+    alloc: Global,
+    programs: &Programs,
+    names: Names,
+    row: &Row,
+) -> Result<bool, Fail> {
+    let mut table = T::opened(alloc)?;
+    is_kept(&mut table, programs, names, row)
+}
+
 /// Plays each row on a table of its own.
 fn try_rows<T: Tried + Drop>(
     rt: &impl Abort,
@@ -192,8 +203,8 @@ fn try_rows<T: Tried + Drop>(
 ) -> Result<(), Fail> {
     let programs = Programs::new(alloc)?;
     for (number, row) in rows.iter().enumerate() {
-        let mut table = T::opened(alloc)?;
-        assert!(rt; is_kept(&mut table, &programs, names, row)?, "row {number}");
+        let kept = is_kept_anew::<T>(alloc, &programs, names, row)?;
+        assert!(rt; kept, "row {number}");
     }
     Ok(())
 }

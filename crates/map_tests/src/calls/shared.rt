@@ -104,6 +104,18 @@ fn is_row_kept<R: Wait>(
     Ok(given && found && beside)
 }
 
+/// Plays the row on a map of its own.
+fn is_kept_anew<R: Wait>(
+    rt: &R,
+    alloc: Global,
+    programs: &Programs,
+    names: Names,
+    row: &Row,
+) -> Result<bool, Fail> {
+    let (map, mut pass) = map_and_pass(alloc, 4).ok_or("no map")?;
+    is_row_kept(rt, programs, &map, &mut pass, names, row)
+}
+
 /// Plays each row on a map of its own.
 fn try_rows<R: Wait + Abort>(
     rt: &R,
@@ -113,8 +125,7 @@ fn try_rows<R: Wait + Abort>(
 ) -> Result<(), Fail> {
     let programs = Programs::new(alloc)?;
     for (number, row) in rows.iter().enumerate() {
-        let (map, mut pass) = map_and_pass(alloc, 4).ok_or("no map")?;
-        let kept = is_row_kept(rt, &programs, &map, &mut pass, names, row)?;
+        let kept = is_kept_anew(rt, alloc, &programs, names, row)?;
         assert!(rt; kept, "row {number}");
     }
     Ok(())

@@ -94,14 +94,30 @@ fn is_row_kept<R: Wait>(
     Ok(after == deadline && is_wanted(&reply, wanted))
 }
 
+/// Makes the calls of these rows. Returns the number of the first one that isn't kept.
+fn first_broken<R: Wait>(
+    rt: &R,
+    map: &StripedMap,
+    pass: &mut Pass,
+    programs: &Programs,
+    rows: &[Row],
+) -> Result<Option<usize>, Fail>
+    requires { pass.old.map ≡ map.now }
+{
+    for (number, row) in rows.iter().enumerate() {
+        if !is_row_kept(rt, map, pass, programs, row)? {
+            return Ok(Some(number));
+        }
+    }
+    Ok(None)
+}
+
 #[test]
 fn deadlines_of_a_key(rt: HostRuntime) -> Result<(), Fail> {
     let programs = Programs::new(rt.alloc())?;
     let (map, mut pass) = map_and_pass(rt.alloc(), 4).ok_or("no map")?;
-    for (number, row) in ROWS.iter().enumerate() {
-        let kept = is_row_kept(&rt, &map, &mut pass, &programs, row)?;
-        assert!(&rt; kept, "row {number}");
-    }
+    let broken = first_broken(&rt, &map, &mut pass, &programs, &ROWS)?;
+    assert!(&rt; broken.is_none(), "row {broken:?}");
     Ok(())
 }
 
@@ -121,19 +137,37 @@ fn is_found<R: Wait>(
     Ok((found, map.count_stripe(rt, pass, stripe)) == wanted)
 }
 
+/// A time, what a look for an entry whose time is over finds then, and how many entries it leaves.
+const LOOKS: [(u64, (Expiry, u64)); 3] = [
+    (99, (Expiry::Waits(100), 1)),
+    (100, (Expiry::Took, 0)),
+    (50, (Expiry::Nothing, 0)),
+];
+
+/// Looks at these times. Returns the first one at which something else is found.
+fn first_missed<R: Wait>(
+    rt: &R,
+    map: &StripedMap,
+    pass: &mut Pass,
+    looks: &[(u64, (Expiry, u64))],
+) -> Result<Option<u64>, Fail>
+    requires { pass.old.map ≡ map.now }
+{
+    for (now, wanted) in looks {
+        if !is_found(rt, map, pass, *now, *wanted)? {
+            return Ok(Some(*now));
+        }
+    }
+    Ok(None)
+}
+
 #[test]
 fn an_entry_goes_when_its_time_is_over(rt: HostRuntime) -> Result<(), Fail> {
-    let programs = Programs::new(rt.alloc())?;
     let (map, mut pass) = map_and_pass(rt.alloc(), 1).ok_or("no map")?;
-    let put = (10, Method::Put(b"x"), UNTIL, Wanted::Nothing, Some(100));
-    assert!(&rt; is_row_kept(&rt, &map, &mut pass, &programs, &put)?);
-    for (now, wanted) in [
-        (99, (Expiry::Waits(100), 1)),
-        (100, (Expiry::Took, 0)),
-        (50, (Expiry::Nothing, 0)),
-    ] {
-        assert!(&rt; is_found(&rt, &map, &mut pass, now, wanted)?, "at {now}");
-    }
+    let (key, value) = (&key(b"a")?, &value(b"x")?);
+    made(&rt, &map, &mut pass, &Call::Put { key, value }, &SOON)?;
+    let missed = first_missed(&rt, &map, &mut pass, &LOOKS)?;
+    assert!(&rt; missed.is_none(), "at {missed:?}");
     Ok(())
 }
 

@@ -1,5 +1,5 @@
 use Rattle.std.proofs.Common.{◌≡◌}
-use Rattle.map_tests.proofs.calls.timed.deadlines_of_a_key.Given as goal
+use Rattle.map_tests.proofs.calls.timed.first_broken.Given as goal
 
 -- the pass serves the same map
 abbrev pub invariant-loop-number : goal.invariant-loop-number

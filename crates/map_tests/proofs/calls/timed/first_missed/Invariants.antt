@@ -1,5 +1,5 @@
 use Rattle.std.proofs.Common.{◌≡◌}
-use Rattle.map_tests.proofs.calls.timed.an_entry_goes_when_its_time_is_over.Given as goal
+use Rattle.map_tests.proofs.calls.timed.first_missed.Given as goal
 
 -- the pass serves the same map
 abbrev pub invariant-loop-now : goal.invariant-loop-now
