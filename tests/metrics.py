@@ -402,7 +402,7 @@ def bytes_by_kind(program: Path) -> None:
             more = more_bytes(ports.metrics, lambda: [other.ask("EXPIRE", b"%d" % number, "3600") for number in range(many)])
             same("deadlines", (more["rows"], 100 * many < more["index"] < 3000 * many), (0, True))
             more = more_bytes(ports.metrics, lambda: [client.ask(wire.register(sizes, units)) for _ in range(3)])
-            same("one program, sent three times", more["programs"], 32 * 4002)
+            same("one program, sent three times", more["programs"], 32 * 4002 + 256)
             for one, part in ((fresh, wire.frame(wire.put(b"a", value))[:-1]), (other, b"*2\r\n$3\r\nGET\r\n$900\r\n" + bytes(800))):
                 more = more_bytes(ports.metrics, lambda: begin(ports.metrics, one, part))
                 same("a request in part", len(part) <= more["sessions"] < 10 * len(part), True)

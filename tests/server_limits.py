@@ -175,6 +175,41 @@ def a_full_map_serves_on(program: Path) -> None:
         same("a new key when there is room", client.ask(wire.put(b"more", value)), wire.NOTHING)
 
 
+def programs_have_a_share(program: Path) -> None:
+    """Programs of more than a sixteenth of the memory are refused with 9; those that are known are taken, and so are entries."""
+    begin, end = bytes.fromhex("b705000001000000"), bytes.fromhex("b7000000ffffffff 9500000000000000")
+    long = [wire.register((64, 0, 8, 8), begin * (3998 + more) + end) for more in range(4)]
+    with started(program, "--memory", "6") as server, wire.opened(server.address, 2) as client:
+        for number, sent in enumerate(long[:3]):
+            same("one of three programs of 4,000 units", client.ask(sent), b"\x81" + wire.number_field(number))
+        same("a fourth", client.ask(long[3]), wire.refused(9))
+        with wire.opened(server.address, 2) as late:
+            same("the first again", late.ask(long[0]), b"\x81" + wire.number_field(0))
+            same("an entry", late.ask(wire.put(b"a", b"1")), wire.NOTHING)
+
+
+def heavy_clients_make_room(program: Path) -> None:
+    """Clients that are owed more than their share, all together, are let go; one that is owed nothing stays, and new ones come."""
+    requests = wire.frames([wire.get(b"long")] * 2000)
+    with contextlib.ExitStack() as stack:
+        server = stack.enter_context(started(program, "--workers", "1", "--memory", "12"))
+        light = stack.enter_context(wire.opened(server.address, 2))
+        same("a Put", light.ask(wire.put(b"long", bytes(1024))), wire.NOTHING)
+        before = len(descriptors_of(server))
+        deaf = [stack.enter_context(wire.opened(server.address, 2)) for _ in range(40)]
+        for client in deaf:
+            client.socket.setblocking(False)
+        until = time.monotonic() + 2 * SOON
+        while time.monotonic() < until and len(descriptors_of(server)) - before > 20:
+            for client in deaf:
+                with contextlib.suppress(BlockingIOError, ConnectionError):
+                    client.socket.send(requests)
+            same("a Get beside them", light.ask(wire.get(b"long")), wire.value(bytes(1024)))
+        same("how many deaf ones are left", len(descriptors_of(server)) - before <= 20, True)
+        with wire.opened(server.address, 2) as late:
+            same("a Get of a later client", late.ask(wire.get(b"long")), wire.value(bytes(1024)))
+
+
 def ends_within(client: wire.Client, seconds: float) -> float | None:
     """After how long the client's stream ends; none if it does not in time."""
     begun = time.monotonic()
@@ -269,7 +304,8 @@ def one_worker_answers_each(program: Path) -> None:
 
 
 PARTS = (accepts_are_tried_again, failed_accepts_end_the_server, a_failed_port_ends_the_server, missing_threads_are_told,
-         clients_beyond_the_limit_are_told, a_full_map_serves_on, silent_clients_are_let_go, deaf_clients_are_let_go, drips_end, one_worker_answers_each, sessions_are_counted_at_once,
+         clients_beyond_the_limit_are_told, a_full_map_serves_on, programs_have_a_share, heavy_clients_make_room,
+         silent_clients_are_let_go, deaf_clients_are_let_go, drips_end, one_worker_answers_each, sessions_are_counted_at_once,
          workers_without_descriptors_are_told)
 
 
