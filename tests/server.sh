@@ -85,6 +85,15 @@ expect() {
     judge "$name" ended "$status" "$output" "$errors"
 }
 
+# Whether a server for nobody fails to write to a file that this many bytes make full, and has filled it.
+full_after() {
+    head -c "$((1024 - $1))" /dev/zero > "$work/out"
+    got=0
+    (trap '' XFSZ; ulimit -f 1; exec "$program" --listen 127.0.0.1:0 --sessions 0 >> "$work/out" 2> "$work/err") || got=$?
+    [ "$got" = 3 ] && [ "$(tail -n 1 "$work/err")" = "failed write" ] || return 1
+    cmp -s <(tail -c "$1" "$work/out") <(printf 'ready\nserved 0\n' | head -c "$1")
+}
+
 # Whether standard error has just these lines, each of its pattern.
 told_alone() {
     [ "$(wc -l < "$work/err")" = "$#" ] || return 1
@@ -109,6 +118,10 @@ expect "two Redis ports" 2 "" "error: *--redis*" --redis 127.0.0.1:0 --redis 127
 expect "33 workers" 2 "" "error: *33*" --listen 127.0.0.1:0 --workers 33
 expect "no workers" 2 "" "error: *0*" --listen 127.0.0.1:0 --workers 0
 expect "a team of 9" 2 "" "error: *9*" --listen 127.0.0.1:0 --team 9
+expect "a team of 0" 2 "" "error: *0*" --listen 127.0.0.1:0 --team 0
+expect "a team of no number" 2 "" "error: *--team*" --listen 127.0.0.1:0 --team
+expect "65,536 stripes" 2 "" "error: *65536*" --listen 127.0.0.1:0 --stripes 65536
+expect "a word that is no option" 2 "" "error: *other*" --listen 127.0.0.1:0 other
 expect "too many sessions" 2 "" "error: *65536*" --listen 127.0.0.1:0 --sessions 65536
 expect "no clients" 2 "" "error: *0*" --listen 127.0.0.1:0 --clients 0
 expect "too many clients" 2 "" "error: *65536*" --listen 127.0.0.1:0 --clients 65536
@@ -123,6 +136,9 @@ for address in nowhere 127.0.0.1 127.0.0.1:65536 127.0.0.1:x 192.0.2.1:0; do
     expect "$address, where nothing can listen, for Redis" 3 "" "failed listen"$'\n'"$address: ?*" --listen 127.0.0.1:0 --redis "$address"
 done
 sink=/dev/full expect "an output that can't be written" 3 "" "failed write" --listen 127.0.0.1:0 --sessions 0
+for room in 0 5 6 14; do
+    judge "an output with room for $room bytes" full_after "$room"
+done
 expect "the version" 0 "mapd 0.1.0" "" --version
 
 start --workers 1

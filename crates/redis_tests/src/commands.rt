@@ -1,6 +1,6 @@
 //! Rows that a Redis 7.0.15 answered.
 use redis_commands::{
-    Command, CommandFault, Condition, ExpireRule, KeyAct, Lifetime, TimeForm, TimeUnit,
+    Command, CommandFault, Condition, ExpireRule, FaultText, KeyAct, Lifetime, TimeForm, TimeUnit,
     WalkCommand, command_before_auth, command_of, matches,
 };
 use std::alloc::{AllocError, Global};
@@ -157,14 +157,19 @@ const FAULTS: [(&str, &str); 47] = [
     ),
 ];
 
+/// Tests whether the line is refused with this text.
+fn is_refused(alloc: Global, line: &str, text: &str) -> Result<bool, AllocError> {
+    let words = words_of(alloc, line)?;
+    Ok(match command_of(&words, NOW) {
+        Ok(_) => false,
+        Err(fault) => fault.text().as_slice() == text.as_bytes(),
+    })
+}
+
 #[test]
 fn error_texts_are_those_of_redis(rt: HostRuntime) -> Result<(), Fail> {
-    for (line, text) in FAULTS {
-        let words = words_of(rt.alloc(), line)?;
-        match command_of(&words, NOW) {
-            Ok(_) => assert!(rt; false, "{line}"),
-            Err(fault) => assert!(rt; fault.text().as_slice() == text.as_bytes(), "{line}"),
-        }
+    for (line, text) in &FAULTS {
+        assert!(rt; is_refused(rt.alloc(), line, text)?, "{line}");
     }
     Ok(())
 }
@@ -187,18 +192,24 @@ const LOCKED: [(&str, &str); 8] = [
     ("auth a b c", "ERR syntax error"),
 ];
 
+/// Lines that a client may send that has not authenticated.
+const UNLOCKED: [&str; 5] = ["ping", "quit", "reset", "hello 2", "auth x"];
+
+/// Returns the text with which the line of such a client is refused, if it is.
+fn locked_out(alloc: Global, line: &str) -> Result<Option<FaultText>, AllocError> {
+    let words = words_of(alloc, line)?;
+    Ok(command_before_auth(&words).err().map(|fault| fault.text()))
+}
+
 #[test]
 fn clients_are_locked_out_as_by_redis(rt: HostRuntime) -> Result<(), Fail> {
-    for (line, text) in LOCKED {
-        let words = words_of(rt.alloc(), line)?;
-        match command_before_auth(&words) {
-            Ok(_) => assert!(rt; false, "{line}"),
-            Err(fault) => assert!(rt; fault.text().as_slice() == text.as_bytes(), "{line}"),
-        }
+    for (line, text) in &LOCKED {
+        let told = locked_out(rt.alloc(), line)?;
+        let same = told.is_some_and(|told| told.as_slice() == text.as_bytes());
+        assert!(rt; same, "{line}");
     }
-    for line in ["ping", "quit", "reset", "hello 2", "auth x"] {
-        let words = words_of(rt.alloc(), line)?;
-        assert!(rt; command_before_auth(&words).is_ok(), "{line}");
+    for line in &UNLOCKED {
+        assert!(rt; locked_out(rt.alloc(), line)?.is_none(), "{line}");
     }
     Ok(())
 }
@@ -227,8 +238,8 @@ const PATTERNS: [(&[u8], &[u8], bool); 18] = [
 
 #[test]
 fn patterns_match_as_in_redis(rt: HostRuntime) {
-    for (pattern, text, wanted) in PATTERNS {
-        assert_eq!(rt; matches(pattern, text), wanted);
+    for (pattern, text, wanted) in &PATTERNS {
+        assert!(rt; matches(pattern, text) == *wanted, "{pattern:?}");
     }
 }
 
@@ -319,11 +330,16 @@ fn act_on_k<'w>(words: &'w [&'w [u8]]) -> Option<KeyAct<'w>> {
     }
 }
 
+/// Tests whether the line asks for this on the key `k`.
+fn is_asked_on_k(alloc: Global, line: &str, act: KeyAct<'_>) -> Result<bool, AllocError> {
+    let words = words_of(alloc, line)?;
+    Ok(act_on_k(&words) == Some(act))
+}
+
 #[test]
 fn deadlines_are_absolute(rt: HostRuntime) -> Result<(), Fail> {
-    for (line, act) in DEADLINES {
-        let words = words_of(rt.alloc(), line)?;
-        assert!(rt; act_on_k(&words) == Some(act), "{line}");
+    for (line, act) in &DEADLINES {
+        assert!(rt; is_asked_on_k(rt.alloc(), line, *act)?, "{line}");
     }
     Ok(())
 }
