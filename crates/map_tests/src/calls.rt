@@ -176,7 +176,6 @@ impl Lender {
 
 mod memory;
 mod methods;
-mod places;
 mod shared;
 mod stripes;
 mod timed;

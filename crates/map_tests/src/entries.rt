@@ -10,7 +10,6 @@ use std::alloc::Global;
 use std::test::Fail;
 
 mod lengths;
-mod made_up;
 mod replaced;
 
 /// Puts bytes at a name.
@@ -108,7 +107,7 @@ fn copied_twice<B: Bins + Drop>(alloc: Global) -> Result<bool, Fail> {
 }
 
 /// Makes one of 256 keys of eight pairs, each `41 61` or `42 42`: all have one hash.
-pub(crate) fn key_of_pairs(number: u8) -> Result<Key, Fail> {
+fn key_of_pairs(number: u8) -> Result<Key, Fail> {
     let mut bytes = [0; 16];
     for pair in 0..8usize {
         let second = number & (1 << pair) != 0;
