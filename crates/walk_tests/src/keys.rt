@@ -1,14 +1,15 @@
 //! Walks over the keys of a small map with one pass.
-ghost use Rattle.std.specs.Prelude.{◌≡◌, IfOk};
+ghost use Rattle.std.specs.Prelude.{◌≡◌, All};
 
+use crate::passes::next_pass;
+use crate::playing::on_map;
 use atomic_methods::Call;
 use bin_stripes::{Pass, StripedMap};
 use bpf_model::{Key, NoMemory, Value};
 use key_walks::{PageAsked, all_keys, count_all, random_key, remove_all, scan_some};
-use std::alloc::Global;
-use std::process::Abort;
 use std::sync::Wait;
 use std::test::Fail;
+use std::thread::Threads;
 use timed_bins::{DeadlineChange, SetRule, Timing};
 
 /// The number of keys in the map.
@@ -23,19 +24,6 @@ fn all_from(cursor: u64) -> PageAsked {
         cursor,
         most: 41,
         time: NOW,
-    }
-}
-
-/// Opens a map of four stripes with one pass. Returns `NoMemory` if memory was refused.
-fn opened(alloc: Global) -> Result<(StripedMap, Pass), NoMemory>
-    ensures { IfOk result (λ r. r.1.map ≡ r.0) }
-{
-    let Ok((map, mut passes)) = StripedMap::open(alloc, 4, 1) else {
-        return Err(NoMemory);
-    };
-    match passes.pop() {
-        Some(pass) => Ok((map, pass)),
-        None => Err(NoMemory),
     }
 }
 
@@ -101,18 +89,38 @@ fn walk_pages<R: AllocGlobal + Wait>(
     Ok(paged)
 }
 
+/// What the pages of three keys have.
+const PAGED: Paged = Paged {
+    keys: 40,
+    pages: 14,
+    longest: 3,
+    is_over: true,
+};
+
+/// Walks by pages. Tells whether they have each key once.
+fn has_pages<R: AllocGlobal + Wait>(
+    rt: &R,
+    map: &StripedMap,
+    mut passes: Vec<Pass>,
+) -> Result<bool, Fail>
+    requires { All (λ pass. pass.map ≡ map.now) passes.items }
+{
+    let mut pass = next_pass(map, &mut passes)?;
+    fill(rt, map, &mut pass)?;
+    Ok(walk_pages(rt, map, &mut pass, 3)? == PAGED)
+}
+
 #[test]
 fn pages_have_each_key_once(rt: HostRuntime) -> Result<(), Fail> {
-    let (map, mut pass) = opened(rt.alloc())?;
-    fill(&rt, &map, &mut pass)?;
-    let paged = walk_pages(&rt, &map, &mut pass, 3)?;
-    let wanted = Paged {
-        keys: 40,
-        pages: 14,
-        longest: 3,
-        is_over: true,
-    };
-    assert!(rt; paged == wanted, "{paged:?}");
+    let right = on_map(
+        rt.alloc(),
+        4,
+        1,
+        |map: &StripedMap, passes: Vec<Pass>| -> Result<bool, Fail>
+            requires { All (λ pass. pass.map ≡ map.now) passes.items }
+        { has_pages(&rt, map, passes) },
+    )?;
+    assert!(rt; right);
     Ok(())
 }
 
@@ -159,15 +167,35 @@ fn shown_at<R: AllocGlobal + Wait>(
     Ok((keys.len(), page.keys.len(), usize::from(chosen.is_some())))
 }
 
+/// Tells whether a key is there until its time comes.
+fn goes_in_time<R: AllocGlobal + Wait>(
+    rt: &R,
+    map: &StripedMap,
+    mut passes: Vec<Pass>,
+) -> Result<bool, Fail>
+    requires { All (λ pass. pass.map ≡ map.now) passes.items }
+{
+    let mut pass = next_pass(map, &mut passes)?;
+    put_until(rt, map, &mut pass)?;
+    let shown = shown_at(rt, map, &mut pass, 499)?;
+    let counted = count_all(rt, map, &mut pass);
+    let hidden = shown_at(rt, map, &mut pass, 500)?;
+    let left = count_all(rt, map, &mut pass);
+    Ok((shown, counted) == ((1, 1, 1), 1) && (hidden, left) == ((0, 0, 0), 0))
+}
+
 /// A key is shown until its time is over, and is then gone.
 #[test]
 fn what_is_over_is_not_shown(rt: HostRuntime) -> Result<(), Fail> {
-    let (map, mut pass) = opened(rt.alloc())?;
-    put_until(&rt, &map, &mut pass)?;
-    assert!(rt; shown_at(&rt, &map, &mut pass, 499)? == (1, 1, 1));
-    assert!(rt; count_all(&rt, &map, &mut pass) == 1);
-    assert!(rt; shown_at(&rt, &map, &mut pass, 500)? == (0, 0, 0));
-    assert!(rt; count_all(&rt, &map, &mut pass) == 0);
+    let right = on_map(
+        rt.alloc(),
+        4,
+        1,
+        |map: &StripedMap, passes: Vec<Pass>| -> Result<bool, Fail>
+            requires { All (λ pass. pass.map ≡ map.now) passes.items }
+        { goes_in_time(&rt, map, passes) },
+    )?;
+    assert!(rt; right);
     Ok(())
 }
 
@@ -185,24 +213,39 @@ fn listed<R: AllocGlobal + Wait>(
     Ok((keys.len(), page.keys.len()))
 }
 
+/// Makes calls, and again those for which memory was refused. Tells whether all was right.
+fn succeeds_again<R: AllocGlobal + Wait>(
+    rt: &R,
+    map: &StripedMap,
+    mut passes: Vec<Pass>,
+) -> Result<bool, Fail>
+    requires { All (λ pass. pass.map ≡ map.now) passes.items }
+{
+    let mut pass = next_pass(map, &mut passes)?;
+    if fill(rt, map, &mut pass).is_err() {
+        fill(rt, map, &mut pass)?;
+    }
+    let found = match listed(rt, map, &mut pass) {
+        Ok(found) => found,
+        Err(NoMemory) => listed(rt, map, &mut pass)?,
+    };
+    if remove_all(rt, rt.alloc(), map, &mut pass).is_err() {
+        remove_all(rt, rt.alloc(), map, &mut pass)?;
+    }
+    Ok(found == (40, 40) && count_all(rt, map, &mut pass) == 0)
+}
+
 /// If memory is refused, the walk succeeds the next time.
 #[test]
 fn a_refused_key_walk_succeeds_again(rt: HostRuntime) -> Result<(), Fail> {
-    let (map, mut pass) = match opened(rt.alloc()) {
-        Ok(opened) => opened,
-        Err(NoMemory) => opened(rt.alloc())?,
-    };
-    if fill(&rt, &map, &mut pass).is_err() {
-        fill(&rt, &map, &mut pass)?;
-    }
-    let found = match listed(&rt, &map, &mut pass) {
-        Ok(found) => found,
-        Err(NoMemory) => listed(&rt, &map, &mut pass)?,
-    };
-    assert!(rt; found == (40, 40));
-    if remove_all(&rt, rt.alloc(), &map, &mut pass).is_err() {
-        remove_all(&rt, rt.alloc(), &map, &mut pass)?;
-    }
-    assert!(rt; count_all(&rt, &map, &mut pass) == 0);
+    let right = on_map(
+        rt.alloc(),
+        4,
+        1,
+        |map: &StripedMap, passes: Vec<Pass>| -> Result<bool, Fail>
+            requires { All (λ pass. pass.map ≡ map.now) passes.items }
+        { succeeds_again(&rt, map, passes) },
+    )?;
+    assert!(rt; right);
     Ok(())
 }

@@ -6,6 +6,8 @@ mod keys;
 #[cfg(test)]
 mod passes;
 #[cfg(test)]
+mod playing;
+#[cfg(test)]
 mod seats;
 #[cfg(test)]
 mod walks;

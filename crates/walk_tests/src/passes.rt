@@ -1,8 +1,9 @@
 //! Rows of calls by several passes, in one thread and in many.
 ghost use Rattle.std.specs.Prelude.{◌≡◌, All, IfOk};
 
+use crate::playing::{on_map, opened};
 use atomic_methods::{Call, Reply};
-use bin_stripes::{CallFault, Gate, OpenFault, OpenGate, Pass, Place, StripedMap};
+use bin_stripes::{CallFault, Gate, OpenGate, Pass, Place, StripedMap};
 use bpf_model::{Key, NoMemory, TooLong, Value};
 use map_tests::programs::{ONE, TWO, summing};
 use std::alloc::Global;
@@ -58,17 +59,6 @@ fn is_value(reply: &Reply, bytes: &[u8]) -> bool {
         Reply::Value(Some(value)) => value.as_slice() == bytes,
         _ => false,
     }
-}
-
-/// Opens a map, whose passes all serve it.
-pub(crate) fn opened(
-    alloc: Global,
-    stripes: u64,
-    passes: u64,
-) -> Result<(StripedMap, Vec<Pass>), OpenFault>
-    ensures all { IfOk result (λ made. All (λ pass. pass.map ≡ made.0) made.1.items) }
-{
-    StripedMap::open(alloc, stripes, passes)
 }
 
 /// Returns the entries of a stripe, if the map has it and there is memory.

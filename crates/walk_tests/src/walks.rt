@@ -1,6 +1,7 @@
 //! Walks over a small map, by teams of several sizes.
 ghost use Rattle.std.specs.Prelude.{◌≡◌, All, IfSome};
 
+use crate::playing::on_map;
 use atomic_methods::{Call, Reply};
 use bin_stripes::{Gate, OpenGate, Pass, Place, StripedMap};
 use bins::MergedEntries;
@@ -42,16 +43,6 @@ fn dealt(map: &StripedMap, mut passes: Vec<Pass>) -> Option<(Pass, Team)>
     Some((pass, team))
 }
 
-/// Opens a map with this many stripes, a pass and a team of `workers`. Returns `None` if memory was refused.
-fn made(alloc: Global, stripes: u64, workers: u64) -> Option<(StripedMap, Pass, Team)>
-    ensures pass { IfSome result (λ r. r.1.map ≡ r.0) }
-    ensures team { IfSome result (λ r. All (λ pass. pass.map ≡ r.0) r.2.passes.items) }
-{
-    let (map, passes) = StripedMap::open(alloc, stripes, workers.saturating_add(1)).ok()?;
-    let (pass, team) = dealt(&map, passes)?;
-    Some((map, pass, team))
-}
-
 /// Puts the entries `b` of 2 and `a` of 1, and `c` of nine bytes, which is too long for the program. In one stripe a walk finds
 /// the least key after a greater one. Returns `None` if memory was refused.
 fn put_all<R: Wait>(rt: &R, map: &StripedMap, pass: &mut Pass) -> Option<()>
@@ -63,19 +54,15 @@ fn put_all<R: Wait>(rt: &R, map: &StripedMap, pass: &mut Pass) -> Option<()>
     put(rt, map, pass, b"c", &NINE)
 }
 
-/// Opens a map of those three entries, with a pass and a team of `workers`. Returns `None` if memory was refused.
-fn filled<R: Wait>(
-    rt: &R,
-    alloc: Global,
-    stripes: u64,
-    workers: u64,
-) -> Option<(StripedMap, Pass, Team)>
-    ensures pass { IfSome result (λ r. r.1.map ≡ r.0) }
-    ensures team { IfSome result (λ r. All (λ pass. pass.map ≡ r.0) r.2.passes.items) }
+/// Puts those three entries by the last of the passes, and makes a team of the others. Returns `None` if memory was refused.
+fn filled<R: Wait>(rt: &R, map: &StripedMap, passes: Vec<Pass>) -> Option<(Pass, Team)>
+    requires { All (λ pass. pass.map ≡ map.now) passes.items }
+    ensures pass { IfSome result (λ r. r.0.map ≡ map.now) }
+    ensures team { IfSome result (λ r. All (λ pass. pass.map ≡ map.now) r.1.passes.items) }
 {
-    let (map, mut pass, team) = made(alloc, stripes, workers)?;
-    put_all(rt, &map, &mut pass)?;
-    Some((map, pass, team))
+    let (mut pass, team) = dealt(map, passes)?;
+    put_all(rt, map, &mut pass)?;
+    Some((pass, team))
 }
 
 /// A walk; a search and a list have a threshold.

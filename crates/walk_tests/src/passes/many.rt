@@ -104,20 +104,34 @@ fn hold_beside<R: Threads + Wait + Sync>(
     told
 }
 
-#[test]
-fn stripes_apart(rt: HostRuntime) -> Result<(), Fail> {
+/// Tells whether a pass that holds stripe 0 leaves the other free to call on stripe 1.
+fn are_apart<R: AllocGlobal + Threads + Wait + Sync>(
+    rt: &R,
+    map: &StripedMap,
+    mut passes: Vec<Pass>,
+) -> Result<bool, Fail>
+    requires { All (λ pass. pass.map ≡ map.now) passes.items }
+{
     let program = summing(rt.alloc())?;
-    let (map, mut passes) = opened(rt.alloc(), 2, 2)?;
-    let other = next_pass(&map, &mut passes)?;
-    let holder = next_pass(&map, &mut passes)?;
+    let other = next_pass(map, &mut passes)?;
+    let holder = next_pass(map, &mut passes)?;
     // The key 61 is in stripe 0, and 62 in stripe 1.
     let gate = Shut::new();
-    let (answered, busy) = hold_beside(&rt, &map, holder, other, &program, &gate);
-    let alone = gate.alone.load(Ordering::SeqCst);
-    assert!(rt;
-        answered && busy && alone == 0,
-        "the other is free: {answered}, the held one is not: {busy}, waited in vain: {alone}"
-    );
+    let (answered, busy) = hold_beside(rt, map, holder, other, &program, &gate);
+    Ok(answered && busy && gate.alone.load(Ordering::SeqCst) == 0)
+}
+
+#[test]
+fn stripes_apart(rt: HostRuntime) -> Result<(), Fail> {
+    let right = on_map(
+        rt.alloc(),
+        2,
+        2,
+        |map: &StripedMap, passes: Vec<Pass>| -> Result<bool, Fail>
+            requires { All (λ pass. pass.map ≡ map.now) passes.items }
+        { are_apart(&rt, map, passes) },
+    )?;
+    assert!(rt; right);
     Ok(())
 }
 
@@ -204,20 +218,34 @@ fn merge_by_each<R: Threads + Wait + Sync>(
 }
 
 /// Merges 500 times by this many threads. Tells whether all calls were made, and the key has their sum.
-fn is_sum<R: AllocGlobal + Threads + Wait + Sync>(rt: &R, threads: u64) -> Result<bool, Fail> {
+fn is_sum<R: AllocGlobal + Threads + Wait + Sync>(
+    rt: &R,
+    map: &StripedMap,
+    mut passes: Vec<Pass>,
+    threads: u64,
+) -> Result<bool, Fail>
+    requires { All (λ pass. pass.map ≡ map.now) passes.items }
+{
     let merging = Merging::new(summing(rt.alloc())?);
-    let (map, mut passes) = opened(rt.alloc(), 16, threads.saturating_add(1))?;
-    let mut last = next_pass(&map, &mut passes)?;
-    merge_by_each(rt, &map, passes, &merging, 500);
+    let mut last = next_pass(map, &mut passes)?;
+    merge_by_each(rt, map, passes, &merging, 500);
     let made = merging.made.load(Ordering::SeqCst);
-    let found = got(rt, &map, &mut last, b"a")?;
+    let found = got(rt, map, &mut last, b"a")?;
     Ok(made == threads.wrapping_mul(500) && is_value(&found, &made.to_le_bytes()))
 }
 
 #[test]
 fn threads_merge_on_one_key(rt: HostRuntime) -> Result<(), Fail> {
     for threads in [2, 8] {
-        assert!(rt; is_sum(&rt, threads)?, "{threads} threads");
+        let sum = on_map(
+            rt.alloc(),
+            16,
+            threads + 1,
+            |map: &StripedMap, passes: Vec<Pass>| -> Result<bool, Fail>
+                requires { All (λ pass. pass.map ≡ map.now) passes.items }
+            { is_sum(&rt, map, passes, threads) },
+        )?;
+        assert!(rt; sum, "{threads} threads");
     }
     Ok(())
 }

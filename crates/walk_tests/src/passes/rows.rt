@@ -19,12 +19,30 @@ fn sees_what_was_put<R: Wait>(
     Ok(is_value(&found, &ONE))
 }
 
+/// Tells whether a pass that is told sees what the other put.
+fn is_told<R: AllocGlobal + Wait>(
+    rt: &R,
+    map: &StripedMap,
+    mut passes: Vec<Pass>,
+) -> Result<bool, Fail>
+    requires { All (λ pass. pass.map ≡ map.now) passes.items }
+{
+    let mut second = next_pass(map, &mut passes)?;
+    let mut first = next_pass(map, &mut passes)?;
+    sees_what_was_put(rt, map, &mut first, &mut second)
+}
+
 #[test]
 fn a_told_pass_sees_what_was_put(rt: HostRuntime) -> Result<(), Fail> {
-    let (map, mut passes) = opened(rt.alloc(), 4, 2)?;
-    let mut second = next_pass(&map, &mut passes)?;
-    let mut first = next_pass(&map, &mut passes)?;
-    assert!(rt; sees_what_was_put(&rt, &map, &mut first, &mut second)?);
+    let right = on_map(
+        rt.alloc(),
+        4,
+        2,
+        |map: &StripedMap, passes: Vec<Pass>| -> Result<bool, Fail>
+            requires { All (λ pass. pass.map ≡ map.now) passes.items }
+        { is_told(&rt, map, passes) },
+    )?;
+    assert!(rt; right);
     Ok(())
 }
 
@@ -53,13 +71,23 @@ fn is_closed_with_both<R: Wait>(
     Ok(are_both(&entries))
 }
 
+/// Puts `a` by the one pass, and `b` by the other.
+fn put_both<R: Wait>(rt: &R, map: &StripedMap, mut passes: Vec<Pass>) -> Result<(Pass, Pass), Fail>
+    requires { All (λ pass. pass.map ≡ map.now) passes.items }
+    ensures first { IfOk result (λ r. r.0.map ≡ map.now) }
+    ensures second { IfOk result (λ r. r.1.map ≡ map.now) }
+{
+    let mut second = next_pass(map, &mut passes)?;
+    let mut first = next_pass(map, &mut passes)?;
+    put(rt, map, &mut second, b"b", &[2])?;
+    put(rt, map, &mut first, b"a", &[1])?;
+    Ok((first, second))
+}
+
 #[test]
 fn last_entries_are_in_key_order(rt: HostRuntime) -> Result<(), Fail> {
-    let (map, mut passes) = opened(rt.alloc(), 4, 2)?;
-    let mut second = next_pass(&map, &mut passes)?;
-    let mut first = next_pass(&map, &mut passes)?;
-    put(&rt, &map, &mut second, b"b", &[2])?;
-    put(&rt, &map, &mut first, b"a", &[1])?;
+    let (map, passes) = opened(rt.alloc(), 4, 2)?;
+    let (first, second) = put_both(&rt, &map, passes)?;
     assert!(rt; is_closed_with_both(&rt, rt.alloc(), map, first, second)?);
     Ok(())
 }
@@ -104,12 +132,30 @@ fn are_always_made(
     Ok(true)
 }
 
+/// Tells whether the calls that one thread tries are always made.
+fn is_never_busy<R: AllocGlobal + Wait>(
+    rt: &R,
+    map: &StripedMap,
+    mut passes: Vec<Pass>,
+) -> Result<bool, Fail>
+    requires { All (λ pass. pass.map ≡ map.now) passes.items }
+{
+    let program = summing(rt.alloc())?;
+    let mut pass = next_pass(map, &mut passes)?;
+    are_always_made(rt.alloc(), map, &mut pass, &program, 1_000)
+}
+
 #[test]
 fn a_single_thread_is_never_busy(rt: HostRuntime) -> Result<(), Fail> {
-    let program = summing(rt.alloc())?;
-    let (map, mut passes) = opened(rt.alloc(), 2, 1)?;
-    let mut pass = next_pass(&map, &mut passes)?;
-    assert!(rt; are_always_made(rt.alloc(), &map, &mut pass, &program, 1_000)?);
+    let right = on_map(
+        rt.alloc(),
+        2,
+        1,
+        |map: &StripedMap, passes: Vec<Pass>| -> Result<bool, Fail>
+            requires { All (λ pass. pass.map ≡ map.now) passes.items }
+        { is_never_busy(&rt, map, passes) },
+    )?;
+    assert!(rt; right);
     Ok(())
 }
 
@@ -185,15 +231,33 @@ fn is_replaced_alone<R: Wait>(
     Ok(replaced && is_value(&sum, &TWO) && is_value(&same, &ONE))
 }
 
+/// Tells whether each stripe has its own keys.
+fn have_own_keys<R: AllocGlobal + Wait>(
+    rt: &R,
+    map: &StripedMap,
+    mut passes: Vec<Pass>,
+) -> Result<bool, Fail>
+    requires { All (λ pass. pass.map ≡ map.now) passes.items }
+{
+    let program = summing(rt.alloc())?;
+    let mut pass = next_pass(map, &mut passes)?;
+    let dealt = are_placed(map)? && are_dealt(rt, rt.alloc(), map, &mut pass)?;
+    let replaced = is_replaced_alone(rt, map, &mut pass, &program)?;
+    pass.vouch();
+    Ok(dealt && replaced)
+}
+
 #[test]
 fn a_stripe_has_its_own_keys(rt: HostRuntime) -> Result<(), Fail> {
-    let program = summing(rt.alloc())?;
-    let (map, mut passes) = opened(rt.alloc(), 4, 1)?;
-    let mut pass = next_pass(&map, &mut passes)?;
-    assert!(rt; are_placed(&map)?);
-    assert!(rt; are_dealt(&rt, rt.alloc(), &map, &mut pass)?);
-    assert!(rt; is_replaced_alone(&rt, &map, &mut pass, &program)?);
-    pass.vouch();
+    let right = on_map(
+        rt.alloc(),
+        4,
+        1,
+        |map: &StripedMap, passes: Vec<Pass>| -> Result<bool, Fail>
+            requires { All (λ pass. pass.map ≡ map.now) passes.items }
+        { have_own_keys(&rt, map, passes) },
+    )?;
+    assert!(rt; right);
     Ok(())
 }
 
@@ -231,25 +295,29 @@ fn has_one_again<R: Wait>(rt: &R, alloc: Global, map: &StripedMap, pass: &mut Pa
     }
 }
 
-/// Opens a map of two stripes with one pass, and again if memory was refused.
-fn opened_again(alloc: Global) -> Result<(StripedMap, Vec<Pass>), OpenFault>
-    ensures all { IfOk result (λ made. All (λ pass. pass.map ≡ made.0) made.1.items) }
+/// Makes calls, and again those for which memory was refused. Tells whether all was right.
+fn succeeds_again<R: AllocGlobal + Wait>(
+    rt: &R,
+    map: &StripedMap,
+    mut passes: Vec<Pass>,
+) -> Result<bool, Fail>
+    requires { All (λ pass. pass.map ≡ map.now) passes.items }
 {
-    match opened(alloc, 2, 1) {
-        Ok(made) => Ok(made),
-        Err(_) => opened(alloc, 2, 1),
-    }
+    let mut pass = next_pass(map, &mut passes)?;
+    Ok(is_put_again(rt, map, &mut pass)? && has_one_again(rt, rt.alloc(), map, &mut pass))
 }
 
 /// Also if one request for memory is refused: the call then changes nothing, and succeeds the next time.
 #[test]
 fn a_refused_call_changes_nothing(rt: HostRuntime) -> Result<(), Fail> {
-    let (map, mut passes) = opened_again(rt.alloc())?;
-    let mut pass = next_pass(&map, &mut passes)?;
-    assert!(rt; is_put_again(&rt, &map, &mut pass)?);
-    assert!(rt; has_one_again(&rt, rt.alloc(), &map, &mut pass));
-    if let Ok(entries) = map.close(&rt, rt.alloc(), pass) {
-        assert!(rt; entries.len() == 1);
-    }
+    let right = on_map(
+        rt.alloc(),
+        2,
+        1,
+        |map: &StripedMap, passes: Vec<Pass>| -> Result<bool, Fail>
+            requires { All (λ pass. pass.map ≡ map.now) passes.items }
+        { succeeds_again(&rt, map, passes) },
+    )?;
+    assert!(rt; right);
     Ok(())
 }

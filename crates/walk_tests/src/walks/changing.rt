@@ -259,13 +259,31 @@ fn parted(alloc: Global, map: &StripedMap, team: Team) -> Result<(Vec<Pass>, Tea
     Ok((passes, team))
 }
 
+/// Walks beside the threads. Tells whether all walks and threads were right.
+fn are_found<R: AllocGlobal + Threads + Wait + Sync>(
+    rt: &R,
+    map: &StripedMap,
+    passes: Vec<Pass>,
+) -> Result<bool, Fail>
+    requires { All (λ pass. pass.map ≡ map.now) passes.items }
+{
+    let program = summing(rt.alloc())?;
+    let (mut pass, team) = dealt(map, passes).ok_or("no team")?;
+    put(rt, map, &mut pass, &[16], &NINE).ok_or("not put")?;
+    let (passes, team) = parted(rt.alloc(), map, team)?;
+    Ok(walk_beside(rt, map, passes, team, &program) == (8, WALKS))
+}
+
 #[test]
 fn walks_find_what_was_there(rt: HostRuntime) -> Result<(), Fail> {
-    let program = summing(rt.alloc())?;
-    let (map, mut pass, team) = made(rt.alloc(), 8, 10).ok_or("no map")?;
-    put(&rt, &map, &mut pass, &[16], &NINE).ok_or("not put")?;
-    let (passes, team) = parted(rt.alloc(), &map, team)?;
-    let found = walk_beside(&rt, &map, passes, team, &program);
-    assert!(rt; found == (8, WALKS), "{found:?}");
+    let right = on_map(
+        rt.alloc(),
+        8,
+        11,
+        |map: &StripedMap, passes: Vec<Pass>| -> Result<bool, Fail>
+            requires { All (λ pass. pass.map ≡ map.now) passes.items }
+        { are_found(&rt, map, passes) },
+    )?;
+    assert!(rt; right);
     Ok(())
 }

@@ -1,5 +1,5 @@
 //! Two workers are at one place at once, each with its own number: alone, and beside a thread that makes calls.
-ghost use Rattle.std.specs.Prelude.{◌≡◌, All, IfSome};
+ghost use Rattle.std.specs.Prelude.{◌≡◌, All};
 
 use super::*;
 use std::process::Abort;
@@ -239,32 +239,43 @@ fn number_at_d<R: Wait>(rt: &R, map: &StripedMap, mut pass: Pass) -> Option<u64>
     }
 }
 
-/// Opens a map of two stripes with the three entries and 1 at the key `d`, with a pass and a team of two.
-fn filled_with_d<R: Wait>(rt: &R, alloc: Global) -> Option<(StripedMap, Pass, Team)>
-    ensures pass { IfSome result (λ r. r.1.map ≡ r.0) }
-    ensures team { IfSome result (λ r. All (λ pass. pass.map ≡ r.0) r.2.passes.items) }
+/// Makes the walks whose workers meet at the place, beside at most `most` calls. Tells whether in the end each call and the one
+/// replacement have added 1 to the number at `d`.
+fn are_met<R: AllocGlobal + Threads + Wait + Sync>(
+    rt: &R,
+    map: &StripedMap,
+    passes: Vec<Pass>,
+    place: Place,
+    most: u64,
+) -> Result<bool, Fail>
+    requires { All (λ pass. pass.map ≡ map.now) passes.items }
 {
-    let (map, mut pass, team) = filled(rt, alloc, 2, 2)?;
-    put(rt, &map, &mut pass, b"d", &ONE)?;
-    Some((map, pass, team))
+    let calls = Calls::new(summing(rt.alloc())?, most);
+    let (mut pass, team) = filled(rt, map, passes).ok_or("no entries")?;
+    put(rt, map, &mut pass, b"d", &ONE).ok_or("not put")?;
+    let ((pass, rose), walked) = walk_beside(rt, map, pass, team, place, &calls);
+    let sum = number_at_d(rt, map, pass);
+    walked?;
+    let late = calls.late.load(Ordering::SeqCst);
+    let made = calls.made.load(Ordering::SeqCst);
+    Ok(rose && late == 0 && sum == Some(made.wrapping_add(2)))
 }
 
-/// Makes the walks whose workers meet at the place, beside at most `most` calls. In the end each call and the one replacement have
-/// added 1 to the number at `d`.
+/// Does that on a map of two stripes, by a team of two.
 fn meet_beside<R: AllocGlobal + Threads + Wait + Abort + Sync>(
     rt: &R,
     place: Place,
     most: u64,
 ) -> Result<(), Fail> {
-    let calls = Calls::new(summing(rt.alloc())?, most);
-    let (map, pass, team) = filled_with_d(rt, rt.alloc()).ok_or("no map")?;
-    let ((pass, rose), walked) = walk_beside(rt, &map, pass, team, place, &calls);
-    walked?;
-    let late = calls.late.load(Ordering::SeqCst);
-    assert!(rt; rose && late == 0, "calls");
-    let sum = number_at_d(rt, &map, pass);
-    let made = calls.made.load(Ordering::SeqCst);
-    assert!(rt; sum == Some(made.wrapping_add(2)), "{made} calls");
+    let met = on_map(
+        rt.alloc(),
+        2,
+        3,
+        |map: &StripedMap, passes: Vec<Pass>| -> Result<bool, Fail>
+            requires { All (λ pass. pass.map ≡ map.now) passes.items }
+        { are_met(rt, map, passes, place, most) },
+    )?;
+    assert!(rt; met);
     Ok(())
 }
 

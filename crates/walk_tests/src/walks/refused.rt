@@ -112,17 +112,32 @@ fn program_again(alloc: Global) -> Result<Verified, NoMemory> {
     }
 }
 
+/// Makes walks, and again those for which memory was refused. Tells whether all was right.
+fn succeed_again<R: AllocGlobal + Threads + Wait + Sync>(
+    rt: &R,
+    map: &StripedMap,
+    passes: Vec<Pass>,
+) -> Result<bool, Fail>
+    requires { All (λ pass. pass.map ≡ map.now) passes.items }
+{
+    let program = program_again(rt.alloc())?;
+    let (mut pass, team) = dealt(map, passes).ok_or("no team")?;
+    if put_all(rt, map, &mut pass).is_none() {
+        put_all(rt, map, &mut pass).ok_or("not put")?;
+    }
+    Ok(tried_again(rt, map, &mut pass, team, &program) == ([true; 3], [true; 3]))
+}
+
 #[test]
 fn a_refused_walk_changes_nothing(rt: HostRuntime) -> Result<(), Fail> {
-    let program = program_again(rt.alloc())?;
-    let (map, mut pass, team) = match filled(&rt, rt.alloc(), 4, 2) {
-        Some(made) => made,
-        None => filled(&rt, rt.alloc(), 4, 2).ok_or("no map")?,
-    };
-    let right = tried_again(&rt, &map, &mut pass, team, &program);
-    assert!(rt;
-        right == ([true; 3], [true; 3]),
-        "{right:?}: list, search, count; unchanged, replacement, replaced"
-    );
+    let right = on_map(
+        rt.alloc(),
+        4,
+        3,
+        |map: &StripedMap, passes: Vec<Pass>| -> Result<bool, Fail>
+            requires { All (λ pass. pass.map ≡ map.now) passes.items }
+        { succeed_again(&rt, map, passes) },
+    )?;
+    assert!(rt; right);
     Ok(())
 }

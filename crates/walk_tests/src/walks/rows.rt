@@ -1,4 +1,6 @@
 //! Three entries, walked over by teams of several sizes.
+ghost use Rattle.std.specs.Prelude.{◌≡◌, All};
+
 use super::*;
 use std::process::Abort;
 
@@ -16,41 +18,47 @@ const ROWS: [(&str, Task, Wanted); 8] = [
     ("replace_all", Task::Replace, REPLACED),
 ];
 
-/// Makes the walk by a new team over a new map of three entries. Tells whether it gave this reply.
+/// Makes the walk over the three entries, by a team of all passes but one. Tells whether it gave this reply.
 fn is_made<R: AllocGlobal + Threads + Wait + Sync>(
     rt: &R,
+    map: &StripedMap,
+    passes: Vec<Pass>,
     program: &Verified,
-    sizes: (u64, u64),
     task: Task,
     wanted: Wanted,
-) -> Option<bool> {
-    let (map, _, team) = filled(rt, rt.alloc(), sizes.0, sizes.1)?;
-    let (_, reply) = walk(rt, &map, team, program, task, &OpenGate);
-    Some(replied(&reply, wanted))
+) -> Result<bool, Fail>
+    requires { All (λ pass. pass.map ≡ map.now) passes.items }
+{
+    let (_, team) = filled(rt, map, passes).ok_or("no entries")?;
+    let (_, reply) = walk(rt, map, team, program, task, &OpenGate);
+    Ok(replied(&reply, wanted))
 }
 
-/// Plays each row by a team of this size, over a map of this many stripes.
+/// Plays each row by a new team of this size, over a new map of this many stripes.
 fn play<R: AllocGlobal + Threads + Wait + Abort + Sync>(
     rt: &R,
     program: &Verified,
-    sizes: (u64, u64),
-) {
+    (stripes, workers): (u64, u64),
+) -> Result<(), Fail> {
     for (name, task, wanted) in ROWS {
-        let made = is_made(rt, program, sizes, task, wanted);
-        assert!(rt;
-            made == Some(true),
-            "{name}: {} stripes, {} workers",
-            sizes.0,
-            sizes.1
-        );
+        let made = on_map(
+            rt.alloc(),
+            stripes,
+            workers.saturating_add(1),
+            |map: &StripedMap, passes: Vec<Pass>| -> Result<bool, Fail>
+                requires { All (λ pass. pass.map ≡ map.now) passes.items }
+            { is_made(rt, map, passes, program, task, wanted) },
+        )?;
+        assert!(rt; made, "{name}: {stripes} stripes, {workers} workers");
     }
+    Ok(())
 }
 
 #[test]
 fn each_walk_is_as_wanted_by_each_team(rt: HostRuntime) -> Result<(), Fail> {
     let program = summing(rt.alloc())?;
     for sizes in TEAMS {
-        play(&rt, &program, sizes);
+        play(&rt, &program, sizes)?;
     }
     Ok(())
 }

@@ -1,4 +1,4 @@
-use Rattle.std.proofs.Common.{◌∷◌, [], subst, All}
+use Rattle.std.proofs.Common.{[], subst, All}
 use Rattle.std.proofs.lemmas.List.Elements.{All-head}
 use Rattle.stripe_rule.proofs.HistoryLemmas.{All-front, All-back}
 use Rattle.walk_tests.proofs.PassLists.{IsOf}

@@ -1,4 +1,4 @@
-use Rattle.std.proofs.Common.{rules, ◌≡◌, ◌<◌, length, slice_index_or}
+use Rattle.std.proofs.Common.{rules, ◌≡◌}
 use Rattle.std.proofs.lemmas.List.Elements.{All-pop}
 use Rattle.bin_stripes.specs.declared.pass.Pass.{Pass}
 use Rattle.walk_tests.proofs.walks.dealt.Goals as goal

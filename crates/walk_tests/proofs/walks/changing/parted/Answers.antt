@@ -1,4 +1,4 @@
-use Rattle.std.proofs.Common.{rules, ◌≡◌, ◌<◌, All, Global, Vec, length, slice_index_or, sym, subst}
+use Rattle.std.proofs.Common.{rules, ◌≡◌, All, Global, Vec, sym, subst}
 use Rattle.std.proofs.lemmas.List.Elements.{All-pop}
 use Rattle.bin_stripes.specs.declared.pass.Pass.{Pass}
 use Rattle.walk_tests.proofs.walks.changing.parted.Goals as goal

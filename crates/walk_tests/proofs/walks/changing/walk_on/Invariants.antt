@@ -1,5 +1,4 @@
 use Rattle.std.proofs.Common.{◌≡◌, All}
-use Rattle.atomic_table.specs.Seated.{TableId}
 use Rattle.bin_stripes.specs.Passes.{PassState}
 use Rattle.walk_tests.proofs.walks.changing.walk_on.Given as goal
 
