@@ -3,7 +3,7 @@ ghost use Rattle.std.specs.Prelude.{◌≡◌, All, IfSome};
 
 use super::methods::{BEGINNING, COMPUTING, Names, ONE_HASH, PLAIN, Row};
 use super::*;
-use bin_stripes::{Pass, StripedMap};
+use bin_stripes::{OpenFault, Pass, StripedMap};
 use std::process::Abort;
 use std::sync::Wait;
 
@@ -20,13 +20,21 @@ fn last_pass(map: &StripedMap, mut passes: Vec<Pass>) -> Option<Pass>
     Some(pass)
 }
 
-/// Opens a map with this many stripes and one pass. Returns `None` if memory was refused.
-pub(super) fn map_and_pass(alloc: Global, stripes: u64) -> Option<(StripedMap, Pass)>
-    ensures { IfSome result (λ r. r.1.map ≡ r.0) }
+/// Opens a map with this many stripes and one pass, and again if memory was refused; and plays on it. It alone owns a map:
+/// whatever does has to be proved to drop it.
+pub(super) fn on_map<T: Drop, F: FnOnce(&StripedMap, Pass) -> Result<T, Fail>>(
+    alloc: Global,
+    stripes: u64,
+    play: F,
+) -> Result<T, Fail>
+    requires { (map : _) → (pass : _) → pass.map ≡ map.now → F.pre play map pass }
 {
-    let (map, passes) = StripedMap::open(alloc, stripes, 1).ok()?;
-    let pass = last_pass(&map, passes)?;
-    Some((map, pass))
+    let (map, passes) = match StripedMap::open(alloc, stripes, 1) {
+        Err(OpenFault::NoMemory) => StripedMap::open(alloc, stripes, 1)?,
+        result => result?,
+    };
+    let pass = last_pass(&map, passes).ok_or("no pass")?;
+    play(&map, pass)
 }
 
 /// Tells whether the method on the key of this name gets the expected reply. If this reply leaves no bytes, those of an
@@ -70,12 +78,13 @@ fn is_row_kept<R: Wait>(
     rt: &R,
     programs: &Programs,
     map: &StripedMap,
-    pass: &mut Pass,
+    mut pass: Pass,
     names: Names,
     row: &Row,
 ) -> Result<bool, Fail>
-    requires { pass.old.map ≡ map.now }
+    requires { pass.map ≡ map.now }
 {
+    let pass = &mut pass;
     let (before, method, reply, after) = *row;
     let Names { key, neighbour } = names;
     let mut bytes = Value::new();
@@ -104,18 +113,6 @@ fn is_row_kept<R: Wait>(
     Ok(given && found && beside)
 }
 
-/// Plays the row on a map of its own.
-fn is_kept_anew<R: Wait>(
-    rt: &R,
-    alloc: Global,
-    programs: &Programs,
-    names: Names,
-    row: &Row,
-) -> Result<bool, Fail> {
-    let (map, mut pass) = map_and_pass(alloc, 4).ok_or("no map")?;
-    is_row_kept(rt, programs, &map, &mut pass, names, row)
-}
-
 /// Plays each row on a map of its own.
 fn try_rows<R: Wait + Abort>(
     rt: &R,
@@ -125,7 +122,13 @@ fn try_rows<R: Wait + Abort>(
 ) -> Result<(), Fail> {
     let programs = Programs::new(alloc)?;
     for (number, row) in rows.iter().enumerate() {
-        let kept = is_kept_anew(rt, alloc, &programs, names, row)?;
+        let kept = on_map(
+            alloc,
+            4,
+            |map: &StripedMap, pass: Pass| -> Result<bool, Fail>
+                requires { pass.map ≡ map.now }
+            { is_row_kept(rt, &programs, map, pass, names, row) },
+        )?;
         assert!(rt; kept, "row {number}");
     }
     Ok(())

@@ -1,7 +1,7 @@
 //! Calls at a time, on keys with deadlines.
-ghost use Rattle.std.specs.Prelude.{◌≡◌, IfSome};
+ghost use Rattle.std.specs.Prelude.{◌≡◌};
 
-use super::shared::map_and_pass;
+use super::shared::on_map;
 use super::*;
 use bin_stripes::{Expiry, Pass, StripedMap};
 use std::sync::Wait;
@@ -98,14 +98,14 @@ fn is_row_kept<R: Wait>(
 fn first_broken<R: Wait>(
     rt: &R,
     map: &StripedMap,
-    pass: &mut Pass,
+    mut pass: Pass,
     programs: &Programs,
     rows: &[Row],
 ) -> Result<Option<usize>, Fail>
-    requires { pass.old.map ≡ map.now }
+    requires { pass.map ≡ map.now }
 {
     for (number, row) in rows.iter().enumerate() {
-        if !is_row_kept(rt, map, pass, programs, row)? {
+        if !is_row_kept(rt, map, &mut pass, programs, row)? {
             return Ok(Some(number));
         }
     }
@@ -115,8 +115,13 @@ fn first_broken<R: Wait>(
 #[test]
 fn deadlines_of_a_key(rt: HostRuntime) -> Result<(), Fail> {
     let programs = Programs::new(rt.alloc())?;
-    let (map, mut pass) = map_and_pass(rt.alloc(), 4).ok_or("no map")?;
-    let broken = first_broken(&rt, &map, &mut pass, &programs, &ROWS)?;
+    let broken = on_map(
+        rt.alloc(),
+        4,
+        |map: &StripedMap, pass: Pass| -> Result<Option<usize>, Fail>
+            requires { pass.map ≡ map.now }
+        { first_broken(&rt, map, pass, &programs, &ROWS) },
+    )?;
     assert!(&rt; broken.is_none(), "row {broken:?}");
     Ok(())
 }
@@ -144,17 +149,19 @@ const LOOKS: [(u64, (Expiry, u64)); 3] = [
     (50, (Expiry::Nothing, 0)),
 ];
 
-/// Looks at these times. Returns the first one at which something else is found.
+/// Sets a deadline of 100, and looks at these times. Returns the first one at which something else is found.
 fn first_missed<R: Wait>(
     rt: &R,
     map: &StripedMap,
-    pass: &mut Pass,
+    mut pass: Pass,
     looks: &[(u64, (Expiry, u64))],
 ) -> Result<Option<u64>, Fail>
-    requires { pass.old.map ≡ map.now }
+    requires { pass.map ≡ map.now }
 {
+    let (key, value) = (&key(b"a")?, &value(b"x")?);
+    made(rt, map, &mut pass, &Call::Put { key, value }, &SOON)?;
     for (now, wanted) in looks {
-        if !is_found(rt, map, pass, *now, *wanted)? {
+        if !is_found(rt, map, &mut pass, *now, *wanted)? {
             return Ok(Some(*now));
         }
     }
@@ -163,22 +170,15 @@ fn first_missed<R: Wait>(
 
 #[test]
 fn an_entry_goes_when_its_time_is_over(rt: HostRuntime) -> Result<(), Fail> {
-    let (map, mut pass) = map_and_pass(rt.alloc(), 1).ok_or("no map")?;
-    let (key, value) = (&key(b"a")?, &value(b"x")?);
-    made(&rt, &map, &mut pass, &Call::Put { key, value }, &SOON)?;
-    let missed = first_missed(&rt, &map, &mut pass, &LOOKS)?;
+    let missed = on_map(
+        rt.alloc(),
+        1,
+        |map: &StripedMap, pass: Pass| -> Result<Option<u64>, Fail>
+            requires { pass.map ≡ map.now }
+        { first_missed(&rt, map, pass, &LOOKS) },
+    )?;
     assert!(&rt; missed.is_none(), "at {missed:?}");
     Ok(())
-}
-
-/// Opens a map with one pass, and again if memory was refused.
-fn opened(alloc: Global) -> Option<(StripedMap, Pass)>
-    ensures { IfSome result (λ r. r.1.map ≡ r.0) }
-{
-    match map_and_pass(alloc, 4) {
-        None => map_and_pass(alloc, 4),
-        opened => opened,
-    }
 }
 
 /// Gives an entry a deadline by a call that finds its value, and once more. Tells whether the entry was left without one if the
@@ -202,16 +202,28 @@ fn is_refused_well<R: Wait>(
     Ok(made(rt, map, pass, get, &SOON)? == (found(), Some(100)))
 }
 
+/// Puts an entry, and again if that was refused, and does that.
+fn is_left<R: Wait>(rt: &R, map: &StripedMap, mut pass: Pass) -> Result<bool, Fail>
+    requires { pass.map ≡ map.now }
+{
+    let (key, value) = (&key(b"a")?, &value(b"x")?);
+    let put = &Call::Put { key, value };
+    if made(rt, map, &mut pass, put, &SEEN).is_err() {
+        made(rt, map, &mut pass, put, &SEEN)?;
+    }
+    Ok(is_refused_well(rt, map, &mut pass, (key, value))?)
+}
+
 /// Also if one allocation fails: the entry then has no deadline, and the same call again gives it one.
 #[test]
 fn a_refused_deadline_leaves_the_entry(rt: HostRuntime) -> Result<(), Fail> {
-    let (map, mut pass) = opened(rt.alloc()).ok_or("no map")?;
-    let key = &key(b"a")?;
-    let value = &value(b"x")?;
-    let put = &Call::Put { key, value };
-    if made(&rt, &map, &mut pass, put, &SEEN).is_err() {
-        made(&rt, &map, &mut pass, put, &SEEN)?;
-    }
-    assert!(&rt; is_refused_well(&rt, &map, &mut pass, (key, value))?);
+    let left = on_map(
+        rt.alloc(),
+        4,
+        |map: &StripedMap, pass: Pass| -> Result<bool, Fail>
+            requires { pass.map ≡ map.now }
+        { is_left(&rt, map, pass) },
+    )?;
+    assert!(&rt; left);
     Ok(())
 }
