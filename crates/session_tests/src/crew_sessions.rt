@@ -89,13 +89,15 @@ fn crews_and_pass(alloc: Global) -> Option<(StripedMap, Crew, Crew, Pass)>
     Some((map, one, other, pass))
 }
 
-/// The same without the pass.
-fn two_crews(alloc: Global) -> Option<(StripedMap, Crew, Crew)>
-    ensures one { IfSome result (λ r. IsCrewOf r.0 r.1) }
-    ensures other { IfSome result (λ r. IsCrewOf r.0 r.2) }
+/// Opens a map with two crews and one more pass, and plays on it. It alone owns a map: whatever does has to be proved to drop it.
+fn on_crews<F: FnOnce(&StripedMap, Crew, Crew, Pass) -> Result<bool, Fail>>(
+    alloc: Global,
+    play: F,
+) -> Result<bool, Fail>
+    requires { (map : _) → (one : _) → (other : _) → (pass : _) → IsCrewOf map.now one → IsCrewOf map.now other → pass.map ≡ map.now → F.pre play map one other pass }
 {
-    let (map, one, other, _) = crews_and_pass(alloc)?;
-    Some((map, one, other))
+    let (map, one, other, pass) = crews_and_pass(alloc).ok_or("no map")?;
+    play(&map, one, other, pass)
 }
 
 /// The bytes of a session, sent in pieces of at most this size.
@@ -150,16 +152,32 @@ fn is_answered<H: AllocGlobal + Threads + Wait + Sync>(
     end == SessionEnd::Closed && written.as_slice() == answers
 }
 
+/// Runs a session in pieces of this size. Tells whether it has the right answers.
+fn is_answered_in<H: AllocGlobal + Threads + Wait + Sync>(
+    rt: &H,
+    map: &StripedMap,
+    crew: Crew,
+    size: usize,
+) -> Result<bool, Fail>
+    requires { IsCrewOf map.now crew }
+{
+    let registry = Registry::new(rt.alloc())?;
+    let sent = Sent {
+        bytes: PUT_AND_GET,
+        size,
+    };
+    Ok(is_answered(rt, map, &registry, crew, sent, PUT_AND_GOT))
+}
+
 #[test]
 fn a_session_answers_however_it_is_cut(rt: HostRuntime) -> Result<(), Fail> {
     for size in [1, 1 << 14] {
-        let (map, crew, _) = two_crews(rt.alloc()).ok_or("no map")?;
-        let registry = Registry::new(rt.alloc())?;
-        let sent = Sent {
-            bytes: PUT_AND_GET,
-            size,
-        };
-        let answered = is_answered(&rt, &map, &registry, crew, sent, PUT_AND_GOT);
+        let answered = on_crews(
+            rt.alloc(),
+            |map: &StripedMap, one: Crew, _: Crew, _: Pass| -> Result<bool, Fail>
+                requires { IsCrewOf map.now one }
+            { is_answered_in(&rt, map, one, size) },
+        )?;
         assert!(&rt; answered, "{size} at a time");
     }
     Ok(())
@@ -175,13 +193,33 @@ const COMPUTE_AT_ONCE: Sent = Sent {
     size: 1 << 14,
 };
 
+/// Tells whether the other crew's session finds the program that the one crew's session registered.
+fn is_found<H: AllocGlobal + Threads + Wait + Sync>(
+    rt: &H,
+    map: &StripedMap,
+    one: Crew,
+    other: Crew,
+) -> Result<bool, Fail>
+    requires one { IsCrewOf map.now one }
+    requires other { IsCrewOf map.now other }
+{
+    let registry = Registry::new(rt.alloc())?;
+    let registered = is_answered(rt, map, &registry, one, REGISTER_AT_ONCE, REGISTERED);
+    // The walk of the same session sees the call; its team has two other passes.
+    let computed = is_answered(rt, map, &registry, other, COMPUTE_AT_ONCE, COMPUTED);
+    Ok(registered && computed)
+}
+
 #[test]
 fn a_program_of_an_earlier_session_is_found(rt: HostRuntime) -> Result<(), Fail> {
-    let (map, one, other) = two_crews(rt.alloc()).ok_or("no map")?;
-    let registry = Registry::new(rt.alloc())?;
-    assert!(&rt; is_answered(&rt, &map, &registry, one, REGISTER_AT_ONCE, REGISTERED));
-    // The walk of the same session sees the call; its team has two other passes.
-    assert!(&rt; is_answered(&rt, &map, &registry, other, COMPUTE_AT_ONCE, COMPUTED));
+    let found = on_crews(
+        rt.alloc(),
+        |map: &StripedMap, one: Crew, other: Crew, _: Pass| -> Result<bool, Fail>
+            requires one { IsCrewOf map.now one }
+            requires other { IsCrewOf map.now other }
+        { is_found(&rt, map, one, other) },
+    )?;
+    assert!(&rt; found);
     Ok(())
 }
 
@@ -212,21 +250,40 @@ fn have_one_number(tokens: &[ProgramToken], others: &[ProgramToken]) -> bool {
     }
 }
 
-#[test]
-fn tokens_of_two_clients_mean_the_same(rt: HostRuntime) -> Result<(), Fail> {
-    let (map, one, other) = two_crews(rt.alloc()).ok_or("no map")?;
+/// Tells whether a number is the same program's for the clients of both crews.
+fn mean_the_same<H: AllocGlobal + Threads + Wait + Sync>(
+    rt: &H,
+    map: &StripedMap,
+    one: Crew,
+    other: Crew,
+) -> Result<bool, Fail>
+    requires one { IsCrewOf map.now one }
+    requires other { IsCrewOf map.now other }
+{
     let registry = Registry::new(rt.alloc())?;
     let worker = Worker {
-        rt: &rt,
+        rt,
         alloc: rt.alloc(),
         gate: &OpenGate,
-        map: &map,
+        map,
         registry: &registry,
     };
     let registered = tokens_after(&worker, one, REGISTER);
     let named = tokens_after(&worker, other, COMPUTE);
     registered.mean_the_same(&named);
     let (registered, named) = (registered.into_vec(), named.into_vec());
-    assert!(&rt; have_one_number(registered.as_slice(), named.as_slice()));
+    Ok(have_one_number(registered.as_slice(), named.as_slice()))
+}
+
+#[test]
+fn tokens_of_two_clients_mean_the_same(rt: HostRuntime) -> Result<(), Fail> {
+    let same = on_crews(
+        rt.alloc(),
+        |map: &StripedMap, one: Crew, other: Crew, _: Pass| -> Result<bool, Fail>
+            requires one { IsCrewOf map.now one }
+            requires other { IsCrewOf map.now other }
+        { mean_the_same(&rt, map, one, other) },
+    )?;
+    assert!(&rt; same);
     Ok(())
 }

@@ -2,7 +2,7 @@
 ghost use Rattle.std.specs.Prelude.{◌≡◌, All};
 ghost use Rattle.crews.specs.Crews.{IsCrewOf};
 
-use super::crews_and_pass;
+use super::on_crews;
 use crate::bpfmap::memory::{Pieces, ROOM, Room};
 use atomic_methods::{Call, Reply};
 use bin_stripes::{Gate, Pass, Place, StripedMap};
@@ -266,27 +266,44 @@ fn has_number<R: Wait>(rt: &R, map: &StripedMap, mut pass: Pass, number: u64) ->
     }
 }
 
-/// Runs the two sessions while another thread makes at most this many calls.
+/// Runs the two sessions while another thread makes at most this many calls. Tells whether all was right.
+fn are_met<R: AllocGlobal + Threads + Wait + Sync>(
+    rt: &R,
+    map: &StripedMap,
+    crews: Vec<Crew>,
+    mut pass: Pass,
+    most: u64,
+) -> Result<bool, Fail>
+    requires crews { All (λ crew. IsCrewOf map.now crew) crews.items }
+    requires pass { pass.map ≡ map.now }
+{
+    let registry = Registry::new(rt.alloc())?;
+    let told = Told::new(rt.alloc(), most);
+    put(rt, map, &mut pass, 0);
+    let ((pass, right), back) = serve_beside(rt, map, &registry, crews, pass, &told);
+    let served = are_back(&back?) && told.found() == [2, BOTH, 0, 0];
+    let last = has_number(rt, map, pass, told.calls.made.load(Ordering::SeqCst));
+    Ok(served && right && last)
+}
+
+/// Does that on a map of its own.
 fn meet_beside<R: AllocGlobal + Threads + Wait + Abort + Sync>(
     rt: &R,
     most: u64,
 ) -> Result<(), Fail> {
-    let registry = Registry::new(rt.alloc())?;
-    let told = Told::new(rt.alloc(), most);
-    let (map, one, other, mut pass) = crews_and_pass(rt.alloc()).ok_or("no map")?;
-    put(rt, &map, &mut pass, 0);
-    let crews = vec![in rt.alloc(); one, other]?;
-    let ((pass, right), back) = serve_beside(rt, &map, &registry, crews, pass, &told);
-    let back = back?;
-    assert!(rt; are_back(&back));
-    let found = told.found();
-    assert!(rt;
-        found == [2, BOTH, 0, 0],
-        "{found:?}: right, come, alone, late"
-    );
-    let made = told.calls.made.load(Ordering::SeqCst);
-    let last = has_number(rt, &map, pass, made);
-    assert!(rt; right && last, "{made} calls");
+    let alloc = rt.alloc();
+    let met = on_crews(
+        alloc,
+        |map: &StripedMap, one: Crew, other: Crew, pass: Pass| -> Result<bool, Fail>
+            requires one { IsCrewOf map.now one }
+            requires other { IsCrewOf map.now other }
+            requires pass { pass.map ≡ map.now }
+        {
+            let crews = vec![in alloc; one, other]?;
+            are_met(rt, map, crews, pass, most)
+        },
+    )?;
+    assert!(rt; met);
     Ok(())
 }
 

@@ -1,15 +1,19 @@
 //! One worker serves a client of frames and a client of commands, by turns, on one map.
-use super::two_crews;
-use bin_stripes::{OpenGate, Pass};
+ghost use Rattle.crews.specs.Crews.{IsCrewOf};
+
+use super::on_crews;
+use bin_stripes::{OpenGate, Pass, StripedMap};
 use bpf_model::NoMemory;
-use crews::{Clients, Event, NextSweep, Parting, Protocol, Standing, Tokens, Worker, attend};
+use crews::{Clients, Crew, Event, NextSweep, Parting, Protocol, Standing, Tokens, Worker, attend};
 use devices::{Channel, Received, Sent};
 use map_server::SessionEnd;
 use program_registry::Registry;
 use redis_scripts::Scripts;
 use server_state::ServerState;
 use std::alloc::Global;
+use std::sync::Wait;
 use std::test::Fail;
+use std::thread::Threads;
 
 /// A Hello, and a Put of two bytes under the key `a`.
 const PUT: &[u8] = b"\0\0\0\x02\0\x01\0\0\0\x07\x11\x01a\0\x02xy";
@@ -109,18 +113,23 @@ impl Clients<Line> for Two {
     }
 }
 
-#[test]
-fn one_worker_serves_both_protocols(rt: HostRuntime) -> Result<(), Fail> {
+/// Attends both clients. Tells whether both were served.
+fn are_served<H: AllocGlobal + Threads + Wait + Sync>(
+    rt: &H,
+    map: &StripedMap,
+    crew: Crew,
+) -> Result<bool, Fail>
+    requires { IsCrewOf map.now crew }
+{
     let alloc = rt.alloc();
-    let (map, crew, _) = two_crews(alloc).ok_or("no map")?;
     let registry = Registry::new(alloc)?;
     let scripts = Scripts::new(alloc, &registry);
     let state = ServerState::new(alloc, 1, false, 0)?;
     let worker = Worker {
-        rt: &rt,
+        rt,
         alloc,
         gate: &OpenGate,
-        map: &map,
+        map,
         registry: &registry,
     };
     let mut clients = Two {
@@ -129,6 +138,17 @@ fn one_worker_serves_both_protocols(rt: HostRuntime) -> Result<(), Fail> {
         served: 0,
     };
     let _ = attend(&worker, &scripts, &state, &mut clients, crew);
-    assert!(&rt; clients.served == 2, "{} of 2 served", clients.served);
+    Ok(clients.served == 2)
+}
+
+#[test]
+fn one_worker_serves_both_protocols(rt: HostRuntime) -> Result<(), Fail> {
+    let served = on_crews(
+        rt.alloc(),
+        |map: &StripedMap, one: Crew, _: Crew, _: Pass| -> Result<bool, Fail>
+            requires { IsCrewOf map.now one }
+        { are_served(&rt, map, one) },
+    )?;
+    assert!(&rt; served);
     Ok(())
 }

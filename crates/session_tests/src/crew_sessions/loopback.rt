@@ -2,7 +2,7 @@
 ghost use Rattle.std.specs.Prelude.{◌≡◌, All, IfOk, IfSome};
 ghost use Rattle.crews.specs.Crews.{IsCrewOf};
 
-use super::two_crews;
+use super::crews_and_pass;
 use crate::bpfmap::memory::{ROOM, Room};
 use atomic_methods::{Call, Reply};
 use bin_stripes::{OpenGate, Pass, StripedMap};
@@ -164,7 +164,7 @@ fn two_clients_merge_into_one_key(rt: HostRuntime) -> Result<(), Fail> {
     let telling = Telling::new(&mut errors);
     let accept = TcpAccept::new(&rt, rt.alloc(), listener, quotas, telling);
     let registry = Registry::new(rt.alloc())?;
-    let (map, one, other) = two_crews(rt.alloc()).ok_or("no map")?;
+    let (map, one, other, _) = crews_and_pass(rt.alloc()).ok_or("no map")?;
     let crews = vec![in rt.alloc(); one, other]?;
     let address = address.as_str();
     assert!(&rt; serve_two(&rt, &accept, &map, &registry, crews, address)?);

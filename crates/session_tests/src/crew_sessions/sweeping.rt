@@ -1,16 +1,20 @@
 //! A worker that is told so takes an entry out of the map whose time is over, by the clock of its clients.
+ghost use Rattle.crews.specs.Crews.{IsCrewOf};
+
 use super::both_protocols::Line;
-use super::two_crews;
-use bin_stripes::{OpenGate, Pass};
+use super::on_crews;
+use bin_stripes::{OpenGate, Pass, StripedMap};
 use bpf_model::NoMemory;
 use crews::{
-    Clients, Event, NextSweep, Parting, Post, Protocol, Standing, Tokens, Worker, attend_each,
+    Clients, Crew, Event, NextSweep, Parting, Post, Protocol, Standing, Tokens, Worker, attend_each,
 };
 use program_registry::Registry;
 use redis_scripts::Scripts;
 use server_state::ServerState;
 use std::alloc::Global;
+use std::sync::Wait;
 use std::test::Fail;
+use std::thread::Threads;
 
 /// The command that sets the key `a` for 5 milliseconds.
 const SET: &[u8] = b"*5\r\n$3\r\nSET\r\n$1\r\na\r\n$1\r\nx\r\n$2\r\nPX\r\n$1\r\n5\r\n";
@@ -82,18 +86,24 @@ impl Clients<Line> for Swept {
     }
 }
 
-#[test]
-fn a_worker_sweeps(rt: HostRuntime) -> Result<(), Fail> {
+/// Attends both clients. Tells whether the same crew came back, both were served, and the worker wanted to sweep just at the time
+/// of the key.
+fn is_swept<H: AllocGlobal + Threads + Wait + Sync>(
+    rt: &H,
+    map: &StripedMap,
+    crew: Crew,
+) -> Result<bool, Fail>
+    requires { IsCrewOf map.now crew }
+{
     let alloc = rt.alloc();
-    let (map, crew, _) = two_crews(alloc).ok_or("no map")?;
     let registry = Registry::new(alloc)?;
     let scripts = Scripts::new(alloc, &registry);
     let state = ServerState::new(alloc, 1, false, 0)?;
     let worker = Worker {
-        rt: &rt,
+        rt,
         alloc,
         gate: &OpenGate,
-        map: &map,
+        map,
         registry: &registry,
     };
     let clients = Swept {
@@ -109,15 +119,18 @@ fn a_worker_sweeps(rt: HostRuntime) -> Result<(), Fail> {
     posts.push_reserved(Post { crew, clients });
     let mut back = attend_each(&worker, &scripts, &state, posts)?;
     let Post { crew, clients } = back.pop().ok_or("nobody came back")?;
-    assert!(&rt; crew.into_crew().worker == number, "another crew came back");
-    assert!(&rt; clients.served == 2, "{} of 2 served", clients.served);
-    assert!(&rt;
-        clients.before == NextSweep::At(BEGIN + 5),
-        "the sweep is due when the key's time is over"
-    );
-    assert!(&rt;
-        clients.after == NextSweep::Never,
-        "nothing is left to sweep"
-    );
+    let in_time = clients.before == NextSweep::At(BEGIN + 5) && clients.after == NextSweep::Never;
+    Ok(crew.into_crew().worker == number && clients.served == 2 && in_time)
+}
+
+#[test]
+fn a_worker_sweeps(rt: HostRuntime) -> Result<(), Fail> {
+    let swept = on_crews(
+        rt.alloc(),
+        |map: &StripedMap, one: Crew, _: Crew, _: Pass| -> Result<bool, Fail>
+            requires { IsCrewOf map.now one }
+        { is_swept(&rt, map, one) },
+    )?;
+    assert!(&rt; swept);
     Ok(())
 }
