@@ -90,16 +90,17 @@ def most(what: str, found: float, bound: float) -> None:
 
 
 def try_shape(program: Path, key: int, value: int, count: int, bound: int) -> None:
-    """Bounds the bytes an entry of this length, and what is left after all are removed."""
+    """Bounds the bytes an entry of this length, and what is left after all are removed. Beside that, a server that never had an entry is one
+    that has answered as many removals: its buffers are as wide."""
     with Session(program) as session:
-        empty = session.resident()
+        session.remove(range(2 * count), key)
+        never = session.resident()
         session.put(range(count), key, value)
         before = session.resident()
         session.put(range(count, 2 * count), key, value)
         most(f"bytes an entry of {key} and {value}", (session.resident() - before) / count, bound)
         session.remove(range(2 * count), key)
-        most(f"MiB after all of {key} and {value} are removed, of {empty / MEBIBYTE:.1f} without", session.resident() / MEBIBYTE,
-             1.3 * empty / MEBIBYTE + 3)
+        most(f"times the memory of a server that never had them, after all of {key} and {value} are removed", session.resident() / never, 1.3)
 
 
 def try_shorter(program: Path) -> None:
