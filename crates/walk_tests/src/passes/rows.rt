@@ -295,29 +295,31 @@ fn has_one_again<R: Wait>(rt: &R, alloc: Global, map: &StripedMap, pass: &mut Pa
     }
 }
 
-/// Makes calls, and again those for which memory was refused. Tells whether all was right.
+/// Makes calls, and again those for which memory was refused. Returns the pass, and whether all was right.
 fn succeeds_again<R: AllocGlobal + Wait>(
     rt: &R,
     map: &StripedMap,
     mut passes: Vec<Pass>,
-) -> Result<bool, Fail>
+) -> Result<(Pass, bool), Fail>
     requires { All (λ pass. pass.map ≡ map.now) passes.items }
+    ensures { IfOk result (λ r. r.0.map ≡ map.now) }
 {
     let mut pass = next_pass(map, &mut passes)?;
-    Ok(is_put_again(rt, map, &mut pass)? && has_one_again(rt, rt.alloc(), map, &mut pass))
+    let put = is_put_again(rt, map, &mut pass)?;
+    let found = has_one_again(rt, rt.alloc(), map, &mut pass);
+    Ok((pass, put && found))
 }
 
-/// Also if one request for memory is refused: the call then changes nothing, and succeeds the next time.
+/// Also if one request for memory is refused: the call then changes nothing, and succeeds the next time. A refused close has no
+/// entries.
 #[test]
 fn a_refused_call_changes_nothing(rt: HostRuntime) -> Result<(), Fail> {
-    let right = on_map(
-        rt.alloc(),
-        2,
-        1,
-        |map: &StripedMap, passes: Vec<Pass>| -> Result<bool, Fail>
-            requires { All (λ pass. pass.map ≡ map.now) passes.items }
-        { succeeds_again(&rt, map, passes) },
-    )?;
-    assert!(rt; right);
+    let (map, passes) = opened(rt.alloc(), 2, 1)?;
+    let (pass, right) = succeeds_again(&rt, &map, passes)?;
+    let left = match map.close(&rt, rt.alloc(), pass) {
+        Ok(entries) => entries.len() == 1,
+        Err(_) => true,
+    };
+    assert!(rt; right && left);
     Ok(())
 }
