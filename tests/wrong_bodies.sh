@@ -9,8 +9,10 @@ trap 'rm -f "${lent[@]}"; for name in "$@"; do rmdir --ignore-fail-on-non-empty 
 for name in "$@"; do
     mkdir -p "crates/$name/must-fail"
     for edit in "tests/wrong_bodies/$name"/*.edit; do
-        lent+=("crates/$name/must-fail/${edit##*/}")
-        cp -n "$edit" "${lent[-1]}"
+        to=crates/$name/must-fail/${edit##*/}
+        [ ! -e "$to" ] || { echo "$to is there already" >&2; exit 1; }
+        lent+=("$to")
+        cp "$edit" "$to"
     done
 done
 rt must-fail "$@"

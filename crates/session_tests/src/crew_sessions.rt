@@ -89,7 +89,8 @@ fn crews_and_pass(alloc: Global) -> Option<(StripedMap, Crew, Crew, Pass)>
     Some((map, one, other, pass))
 }
 
-/// Opens a map with two crews and one more pass, and plays on it. It alone owns a map: whatever does has to be proved to drop it.
+/// Opens a map with two crews and one more pass, and plays on it: a function that owns a map has to be proved to drop it, so tests are
+/// lent theirs.
 fn on_crews<F: FnOnce(&StripedMap, Crew, Crew, Pass) -> Result<bool, Fail>>(
     alloc: Global,
     play: F,

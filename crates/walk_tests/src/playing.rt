@@ -1,4 +1,5 @@
-//! One function owns the map of each test, and lends it: whatever owns a map has to be proved to drop it.
+//! A function that owns a map has to be proved to drop it. So one function owns the maps of tests, and lends them; a test that closes its
+//! map has its own.
 ghost use Rattle.std.specs.Prelude.{◌≡◌, All, IfOk};
 
 use bin_stripes::{OpenFault, Pass, StripedMap};

@@ -20,8 +20,8 @@ fn last_pass(map: &StripedMap, mut passes: Vec<Pass>) -> Option<Pass>
     Some(pass)
 }
 
-/// Opens a map with this many stripes and one pass, and again if memory was refused; and plays on it. It alone owns a map:
-/// whatever does has to be proved to drop it.
+/// Opens a map with this many stripes and one pass, and again if memory was refused, and plays on it: a function that owns a map has
+/// to be proved to drop it, so tests are lent theirs.
 pub(super) fn on_map<T: Drop, F: FnOnce(&StripedMap, Pass) -> Result<T, Fail>>(
     alloc: Global,
     stripes: u64,
