@@ -2,7 +2,7 @@
 use Rattle.std.specs.Prelude.{ℕ, ◌%◌, ◌≤◌, List}
 use Rattle.std.specs.Int.{IsPowerOfTwo}
 use Rattle.bins.specs.Hashes.{hash}
-use Rattle.atomic_methods.specs.declared.stripes.TheConstants.{MAX_STRIPES}
+use Rattle.atomic_methods.specs.declared.call.TheConstants.{MAX_STRIPES}
 
 -- the stripe of a key, in a table of this many stripes
 abbrev pub stripe_of : ℕ → List ℕ → ℕ

@@ -3,12 +3,12 @@ use Rattle.std.specs.Prelude.{ℕ, Bool, true, false, List, Option, Some, None, 
 use Rattle.bpf_model.specs.declared.input.Answer.{Answer}
 use Rattle.bpf_model.specs.declared.input.Answer.TheVariants.{Nothing, Bytes}
 use Rattle.bpf_model.specs.declared.input.InputPart.{InputPart}
-use Rattle.atomic_methods.specs.declared.plan.Change.{Change}
-use Rattle.atomic_methods.specs.declared.plan.Change.TheVariants.{Keep, Remove, Enter}
-use Rattle.atomic_methods.specs.declared.plan.PlannedReply.{PlannedReply}
-use Rattle.atomic_methods.specs.declared.plan.PlannedReply.TheVariants.{Old, Done as Tells}
-use Rattle.atomic_methods.specs.declared.plan.Plan.{Plan}
-use Rattle.atomic_methods.specs.declared.plan.Plan.TheVariants.{Apply, Give, Run}
+use Rattle.atomic_methods.specs.declared.methods.Change.{Change}
+use Rattle.atomic_methods.specs.declared.methods.Change.TheVariants.{Keep, Remove, Enter}
+use Rattle.atomic_methods.specs.declared.methods.PlannedReply.{PlannedReply}
+use Rattle.atomic_methods.specs.declared.methods.PlannedReply.TheVariants.{Old, Done as Tells}
+use Rattle.atomic_methods.specs.declared.methods.Plan.{Plan}
+use Rattle.atomic_methods.specs.declared.methods.Plan.TheVariants.{Apply, Give, Run}
 use Rattle.atomic_methods.specs.declared.reply.Reply.{Reply}
 use Rattle.atomic_methods.specs.declared.reply.Reply.TheVariants.{Value, Done, Unfit}
 use Rattle.atomic_methods.specs.declared.reply.ReplyKind.{ReplyKind}

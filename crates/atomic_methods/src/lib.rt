@@ -10,25 +10,19 @@
 
 mod call;
 mod fault;
-mod hashed_call;
 mod methods;
-mod plan;
-mod program;
 mod reply;
 mod striped;
-mod stripes;
 mod walk_reply;
 mod walks;
 mod worker_reply;
 mod workspace;
 
-pub use call::Call;
+pub use call::{Call, HashedCall, MAX_STRIPES, is_stripe_count, stripe_of};
 pub use fault::OpenFault;
-pub use hashed_call::HashedCall;
 pub use methods::{apply, apply_into, apply_to_stale, replace_each, scan};
 pub use reply::{Reply, ReplyKind};
 pub use striped::{Stopped, Striped};
-pub use stripes::{MAX_STRIPES, is_stripe_count, stripe_of};
 pub use walk_reply::{WalkKind, WalkReply, count_of};
 pub use walks::walk_entries;
 pub use worker_reply::WorkerReply;

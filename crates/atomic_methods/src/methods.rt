@@ -1,19 +1,19 @@
-//! The methods, over any store of entries.
-ghost use Rattle.std.specs.Prelude.{◌≡◌, ◌≢◌, ◌<◌, ◌^◌, ℕ, List, IfOk, OnOk, OnErr, Some, None};
+//! The methods, over any store of entries: what a call will do to its key is planned before anything changes.
 ghost use Rattle.std.specs.FinMap as map;
-ghost use Rattle.bins.specs.Replacements.{ReplacesEach};
+ghost use Rattle.std.specs.Prelude.{◌≡◌, ◌≢◌, ◌<◌, ◌^◌, ℕ, List, IfOk, OnOk, OnErr, Some, None, ◌↔◌, IsTrue};
+ghost use Rattle.bins.specs.Replacements.{ReplacesEach, ComesTo};
 ghost use Rattle.atomic_methods.specs.Invocations.{invocation_of};
 ghost use Rattle.atomic_methods.specs.Methods.{rule_of, with_value, Follows, Answers, RunsTo, WouldAdd};
-ghost use Rattle.atomic_methods.specs.Plans.{changed, outcome_by, reply_by, reply_planned, where_true};
+ghost use Rattle.atomic_methods.specs.Plans.{changed, outcome_by, reply_by, reply_planned, where_true, rule_by};
+ghost use Rattle.std.specs.Option.{option_copied};
+ghost use Rattle.bpf_model.specs.Fits.{input_of};
 
-use crate::call::Call;
-use crate::hashed_call::HashedCall;
-use crate::plan::{Change, Plan, PlannedReply, plan_of};
-use crate::program::answer_into;
+use crate::call::{Call, HashedCall};
 use crate::reply::{Reply, ReplyKind};
 use crate::workspace::Workspace;
 use bins::{Bins, Counts, HashedKey};
-use bpf_model::{InputPart, Key, NoMemory, Value, value_bytes};
+use bpf_machine::{Machine, run_into};
+use bpf_model::{InputPart, Key, NoMemory, Value, fits_parts, value_bytes};
 use std::alloc::Global;
 use verifier::Verified;
 
@@ -226,4 +226,110 @@ fn new_value(call: &Call, workspace: &mut Workspace, bytes: &mut Value) -> (bool
             Err(part) => (false, ReplyKind::Unfit(part)),
         },
     }
+}
+
+/// The change of a key's value.
+#[derive(Clone, Copy)]
+pub enum Change<'c> {
+    /// Keeps the value, or keeps the key absent.
+    Keep,
+    /// Removes the key.
+    Remove,
+    /// Sets this value.
+    Enter(&'c Value),
+}
+
+/// The reply.
+#[derive(Clone, Copy)]
+pub enum PlannedReply {
+    /// The value that the key had, if any.
+    Old,
+    /// Whether the value was the expected one.
+    Done(bool),
+}
+
+/// What a call does to its key.
+#[derive(Clone, Copy)]
+pub enum Plan<'c> {
+    /// The change and the reply.
+    Apply(Change<'c>, PlannedReply),
+    /// Sets this value and replies it.
+    Give(&'c Value),
+    /// Runs the program with this argument; its answer becomes the key's value and the reply.
+    Run(&'c Verified, Option<&'c Value>),
+}
+
+/// Returns whether a value is the expected one. It is separate, since `plan_of` compares at two places.
+#[inline(never)]
+fn is_expected(old: &[u8], expected: &Value) -> bool
+    ensures { IsTrue result ↔ (old.now ≡ expected.now) }
+{
+    old == expected.as_slice()
+}
+
+/// The rule of each method: what the call does to its key, which has this value or none.
+#[inline(always)]
+pub fn plan_of<'c>(call: &Call<'c>, old: Option<&[u8]>) -> Plan<'c>
+    ensures rule { let value = option_copied old.entry in
+        rule_by result value ≡ rule_of (invocation_of call.now).method value }
+{
+    use Change::{Enter, Keep, Remove};
+    use Plan::{Give, Run, Apply};
+    use PlannedReply::{Done, Old};
+    match call {
+        Call::Get { .. } => Apply(Keep, Old),
+        Call::Put { value, .. } => Apply(Enter(value), Old),
+        Call::PutIfAbsent { value, .. } => match old {
+            Some(_) => Apply(Keep, Old),
+            None => Apply(Enter(value), Old),
+        },
+        Call::Remove { .. } => Apply(Remove, Old),
+        Call::RemoveIf { expected, .. } => match old {
+            Some(old) if is_expected(old, expected) => Apply(Remove, Done(true)),
+            _ => Apply(Keep, Done(false)),
+        },
+        Call::Replace { value, .. } => match old {
+            Some(_) => Apply(Enter(value), Old),
+            None => Apply(Keep, Old),
+        },
+        Call::ReplaceIf {
+            expected,
+            value,
+            ..
+        } => match old {
+            Some(old) if is_expected(old, expected) => Apply(Enter(value), Done(true)),
+            _ => Apply(Keep, Done(false)),
+        },
+        Call::Compute { program, arg, .. } => Run(program, *arg),
+        Call::ComputeIfAbsent { program, arg, .. } => match old {
+            Some(_) => Apply(Keep, Old),
+            None => Run(program, *arg),
+        },
+        Call::ComputeIfPresent { program, arg, .. } => match old {
+            Some(_) => Run(program, *arg),
+            None => Apply(Keep, Old),
+        },
+        Call::Merge { value, program, .. } => match old {
+            Some(_) => Run(program, Some(value)),
+            None => Give(value),
+        },
+    }
+}
+
+/// Runs the program on the key, its value and the argument, in the borrowed machine. Returns whether it answers bytes,
+/// which are then in `answer`; `false` means nothing. If a window is too small, returns the first such window. Takes no
+/// memory.
+pub fn answer_into(
+    program: &Verified,
+    key: &Key,
+    old: Option<&[u8]>,
+    arg: Option<&[u8]>,
+    machine: &mut Machine,
+    answer: &mut Value,
+) -> Result<bool, InputPart>
+    ensures outcome { let input = input_of key.now (option_copied old.entry) (option_copied arg.entry) in
+        ComesTo program.now input (outcome_by result answer.new) }
+{
+    fits_parts(&program.sizes(), key, old, arg)?;
+    Ok(run_into(program, key, old, arg, machine, answer))
 }

@@ -11,12 +11,10 @@ ghost use Rattle.atomic_methods.specs.Replies.{IsReply};
 ghost use Rattle.atomic_methods.specs.Runs.{AnswersInTurn, first_of, IsCallRefused};
 ghost use Rattle.atomic_methods.specs.Whole.{stripe_at, all_entries, whole, AreStripes, ReplacesStripes};
 
-use crate::call::Call;
+use crate::call::{Call, HashedCall, MAX_STRIPES, is_stripe_count};
 use crate::fault::OpenFault;
-use crate::hashed_call::HashedCall;
 use crate::methods;
 use crate::reply::{Reply, ReplyKind};
-use crate::stripes::{MAX_STRIPES, is_stripe_count};
 use crate::walk_reply::{WalkKind, WalkReply};
 use crate::walks::walk_entries;
 use crate::workspace::Workspace;

@@ -6,7 +6,7 @@ ghost use Rattle.bins.specs.Table.{Entry};
 ghost use Rattle.atomic_methods.specs.Plans.{outcome_by};
 ghost use Rattle.atomic_methods.specs.Replies.{chosen, IsReply};
 
-use crate::program::answer_into;
+use crate::methods::answer_into;
 use crate::walk_reply::WalkKind;
 use crate::worker_reply::WorkerReply;
 use bins::{Counts, EntryList, SortedEntries};

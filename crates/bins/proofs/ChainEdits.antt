@@ -4,8 +4,8 @@ use Rattle.std.specs.Prelude.{nat_eq}
 use Rattle.std.specs.List.{swap_remove}
 use Rattle.std.proofs.lemmas.Bool.{eq-eqb, ne_eqb}
 use Rattle.std.proofs.lemmas.List.{length-set, length_push, length-take-le, get_or_append_left, get_or_push, get_or-take, get_or-set_same, take_more, take_all, take_at, set_at, set-append_left}
-use Rattle.bins.specs.declared.chains.Link.{Link}
-use Rattle.bins.specs.declared.chains.Link.TheVariants.{Head, Next}
+use Rattle.bins.specs.declared.index.Link.{Link}
+use Rattle.bins.specs.declared.index.Link.TheVariants.{Head, Next}
 use Rattle.bins.specs.Chains.{Links, IsLinkTo, follow, heads_relinked, nexts_relinked, bin_of, bins_of}
 use Rattle.bins.proofs.ChainLemmas.{last_at, last_here, last_more, last_fewer, last_alike, links_more, links_fewer, links_hidden, links_alike}
 use Rattle.bins.proofs.ChainMoves.{links_relinked, last_upto}

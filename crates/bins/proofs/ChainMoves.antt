@@ -2,8 +2,8 @@
 use Rattle.std.proofs.Common.{◌≡◌, ◌≢◌, ℕ, ◌+◌, ◌-◌, ◌<◌, ◌≤◌, List, length, set, slice_index, sym, ap, subst, ◌∙◌, arith, inl, inr}
 use Rattle.std.proofs.lemmas.Bool.{cases_eq, cases_lt}
 use Rattle.std.proofs.lemmas.List.{length-set, get_or-set_same, get_or-set_other}
-use Rattle.bins.specs.declared.chains.Link.{Link}
-use Rattle.bins.specs.declared.chains.Link.TheVariants.{Head, Next}
+use Rattle.bins.specs.declared.index.Link.{Link}
+use Rattle.bins.specs.declared.index.Link.TheVariants.{Head, Next}
 use Rattle.bins.specs.Chains.{IsLast, Links, IsLinkTo, follow, heads_relinked, nexts_relinked}
 use Rattle.bins.proofs.ChainLemmas.{last_in, last_at, last_more, last_fewer, last_behind, last_alike}
 

@@ -5,10 +5,10 @@ use Rattle.std.proofs.lemmas.Bool.{cases_Bool, cases_eq, cases_lt, eqb-true, eq-
 use Rattle.std.proofs.lemmas.List.{get_or_past, get_or_read, length-set}
 use Rattle.bins.specs.declared.raw_rows.RawRows.{RawRows}
 use Rattle.bins.specs.declared.raw_rows.TheConstants.{WIDTHS}
-use Rattle.bins.specs.declared.location.TheConstants.{MOST_ROWS, VACANT_CODE}
-use Rattle.bins.specs.declared.location.Width.{Width}
-use Rattle.bins.specs.declared.location.Location.{Location}
-use Rattle.bins.specs.declared.location.Location.TheVariants.{In}
+use Rattle.bins.specs.declared.raw_rows.TheConstants.{MOST_ROWS, VACANT_CODE}
+use Rattle.bins.specs.declared.raw_rows.Width.{Width}
+use Rattle.bins.specs.declared.raw_rows.Location.{Location}
+use Rattle.bins.specs.declared.raw_rows.Location.TheVariants.{In}
 use Rattle.bins.specs.KeptRows.{AreRows, KeptRow, Lists, is_same_width, location_at, with_rows}
 use Rattle.bins.specs.Segments.{AreFew, KeptWidth, no_width}
 use Rattle.bpf_model.specs.declared.limits.TheConstants.{KEY_BYTES, VALUE_BYTES}

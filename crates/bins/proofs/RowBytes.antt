@@ -5,7 +5,7 @@ use Rattle.std.proofs.lemmas.Slice.{drop-append-drop}
 use Rattle.byteorder.specs.Numbers.{length-bytes_low_first, little_from-append, little_number-reads_back}
 use borrow.Rule.Slice.PartMut.{put_mid}
 use Rattle.bpf_model.specs.declared.limits.TheConstants.{KEY_BYTES, VALUE_BYTES}
-use Rattle.bins.specs.declared.row.TheConstants.{HEAD_BYTES}
+use Rattle.bins.specs.declared.width_rows.TheConstants.{HEAD_BYTES}
 use Rattle.bins.specs.KeptRows.{HoldsRow, kept, key_in, key_length, number, owner_in, row_in, value_in, value_length, value_place, word_of}
 
 pub length-word : (n x : ℕ) → length (word_of n x) ≡ n

@@ -3,11 +3,11 @@
 use Rattle.std.specs.Prelude.{◌≡◌, ◌≢◌, ℕ, ◌-◌, ◌*◌, ◌%◌, ◌<◌, ◌≤◌, ◌⊎◌, List, Option, Some, None, length, set, slice_index, cond, nat_lt}
 use Rattle.std.specs.Int.{IsPowerOfTwo}
 use Rattle.bins.specs.declared.told_size.TheConstants.{MOST_BINS}
-use Rattle.bins.specs.declared.chains.TheConstants.{FIRST_HEADS, MOST_HALF}
-use Rattle.bins.specs.declared.chains.Chains.{Chains}
-use Rattle.bins.specs.declared.mixing.Seed.{Seed}
-use Rattle.bins.specs.declared.chains.Link.{Link}
-use Rattle.bins.specs.declared.chains.Link.TheVariants.{Head, Next}
+use Rattle.bins.specs.declared.index.TheConstants.{FIRST_HEADS, MOST_HALF}
+use Rattle.bins.specs.declared.index.Chains.{Chains}
+use Rattle.bins.specs.declared.hashes.Seed.{Seed}
+use Rattle.bins.specs.declared.index.Link.{Link}
+use Rattle.bins.specs.declared.index.Link.TheVariants.{Head, Next}
 
 -- the bin of a hash, if there are at least `half` bins and at most twice as many: its remainder by twice the half, or by the
 -- half if there is no bin with that number yet

@@ -1,7 +1,7 @@
 -- The ways to find the positions of keys in a list.
 use Rattle.std.specs.Prelude.{◌≡◌, ℕ, List, map}
-use Rattle.bins.specs.declared.finder.Finder.{Finder}
-use Rattle.bins.specs.declared.finder.Finder.TheVariants.{Hashes, Keys}
+use Rattle.bins.specs.declared.hashed_bins.Finder.{Finder}
+use Rattle.bins.specs.declared.hashed_bins.Finder.TheVariants.{Hashes, Keys}
 use Rattle.bins.specs.Mixed.{mixed}
 use Rattle.bins.specs.Trees.{Locates}
 

@@ -3,7 +3,7 @@
 use Rattle.std.specs.Prelude.{ℕ, zero, suc, ◌+◌, ◌-◌, ◌*◌, ◌/◌, List, length, min, drop, bit_xor}
 use Rattle.std.specs.Hash.FoldHasher.{folded_multiply}
 use Rattle.bins.specs.Fronts.{front}
-use Rattle.bins.specs.declared.mixing.Seed.{Seed}
+use Rattle.bins.specs.declared.hashes.Seed.{Seed}
 
 -- eight bytes from 8 * n on, or the last eight; zeros stand for those that a shorter key doesn't have
 unfoldable pub word_at : List ℕ → ℕ → ℕ

@@ -1,8 +1,8 @@
 -- The rows of one width in segments.
 use Rattle.std.specs.Prelude.{◌≡◌, ℕ, ◌+◌, ◌-◌, ◌*◌, ◌/◌, ◌^◌, ◌<◌, ◌≤◌, ◌⊎◌, List, [], length, map, take, drop, slice_index_or}
 use Rattle.std.specs.List.{range_with_len}
-use Rattle.bins.specs.declared.row.TheConstants.{HEAD_BYTES}
-use Rattle.bins.specs.declared.segment.TheConstants.{SEGMENT_BYTES}
+use Rattle.bins.specs.declared.width_rows.TheConstants.{HEAD_BYTES}
+use Rattle.bins.specs.declared.width_rows.TheConstants.{SEGMENT_BYTES}
 use Rattle.bins.specs.KeptRows.{HoldsRow, KeptRow, row_in}
 
 -- the rows of a width, the most bytes that a key and its value may have in one, the number of segments that they lie in, and

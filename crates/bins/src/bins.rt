@@ -6,8 +6,7 @@ ghost use Rattle.bins.specs.Replacements.{ReplacesEach};
 
 use crate::counts::Counts;
 use crate::entry_list::EntryList;
-use crate::hashes::HashedKey;
-use crate::mixing::Seed;
+use crate::hashes::{HashedKey, Seed};
 use crate::opening::Opening;
 use crate::sorted_entries::sorted_copies;
 use bpf_model::limits::VALUE_BYTES;

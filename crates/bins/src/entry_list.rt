@@ -7,7 +7,7 @@ ghost use Rattle.bins.specs.Entries.{entries_at, entries_in, entry_of};
 ghost use Rattle.bins.specs.Fronts.{front, AreBytes};
 ghost use Rattle.bins.specs.Table.{Entry, by_bytes};
 
-use crate::fronts::front_of;
+use crate::hashes::front_of;
 use crate::rows::Rows;
 use bpf_model::limits::{KEY_BYTES, VALUE_BYTES};
 use bpf_model::{Key, NoMemory, Value};

@@ -1,6 +1,6 @@
 //! What bins are opened with.
 
-use crate::mixing::Seed;
+use crate::hashes::Seed;
 
 /// How bins are opened: the seed by which they hash keys, and how much memory they may take.
 #[derive(Clone, Copy)]

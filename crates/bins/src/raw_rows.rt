@@ -2,17 +2,16 @@
 //! last one of its width takes the gap, and the position of that last one gets the new location.
 ghost use Rattle.std.specs.Prelude.{◌≡◌, ℕ, ◌+◌, ◌-◌, ◌*◌, ◌<◌, ◌≤◌, ◌^◌, ◌++◌, [], ◌∷◌, length, set, IfOk, IsTrue, OnOk, OnErr, vec_capacity};
 ghost use Rattle.std.specs.List.{swap_remove};
-ghost use Rattle.bins.specs.KeptRows.{kept, nobody, location_at, row_at, string_at, with_rows};
+ghost use Rattle.bins.specs.KeptRows.{kept, nobody, location_at, row_at, string_at, with_rows, IsNear};
 ghost use Rattle.bins.specs.Rows.{AreEmpty, AreIn, AreWider, AreWidths, FitIn, IsKept, IsRoomy, keys_in, lists_in, rows_in, segments_for, used, values_in, width_at};
-ghost use Rattle.bins.specs.declared.location.Location.TheVariants.{Vacant};
+ghost use Rattle.bins.specs.declared.raw_rows.Location.TheVariants.{Vacant};
 
 use crate::growth::make_room_for;
-use crate::location::{Location, LocationWord, MOST_ROWS, Width};
-use crate::segment::Segment;
-use crate::width_rows::WidthRows;
+use crate::width_rows::{Segment, WidthRows};
 use bpf_model::limits::{KEY_BYTES, VALUE_BYTES};
 use bpf_model::{Key, NoMemory};
 use std::alloc::Global;
+use std::marker::Model;
 
 /// The number of widths.
 pub const WIDTHS: usize = 17;
@@ -652,5 +651,73 @@ impl RawRows {
         self.free.truncate(kept);
         self.locations.shrink_to(room);
         self.room = room;
+    }
+}
+
+/// The most positions that there may be: more than any memory has room for.
+pub const MOST_ROWS: usize = 1 << 56;
+/// The number of widths that a location can tell apart.
+pub const WIDTH_CODES: u64 = 32;
+/// Stands in a location instead of a width if there is no row.
+pub const VACANT_CODE: u64 = 31;
+
+/// The width of a row: its place among all widths, the narrowest first.
+#[derive(Clone, Copy, PartialEq, Eq)]
+pub struct Width {
+    /// The place.
+    pub step: usize,
+}
+
+/// The location of a position's row.
+#[derive(Clone, Copy)]
+pub enum Location {
+    /// There is no row.
+    Vacant,
+    /// The row is at this position among the rows of this width.
+    In(Width, usize),
+}
+
+/// A location in eight bytes.
+#[derive(Drop)]
+pub struct LocationWord {
+    word: u64,
+}
+
+impl Model for LocationWord {
+    ghost use Rattle.bins.specs.declared.raw_rows.Location.{Location};
+    ghost use Rattle.bins.specs.KeptRows.{location_of};
+
+    ghost Value = { Location };
+
+    ghost view = { λ word. location_of word.word };
+}
+
+impl LocationWord {
+    /// Returns the word of a location.
+    #[inline(always)]
+    pub(crate) fn new(location: Location) -> LocationWord
+        requires { IsNear location }
+        ensures { result ≡ location }
+    {
+        let word = match location {
+            Location::Vacant => VACANT_CODE,
+            Location::In(width, at) => at as u64 * WIDTH_CODES + width.step as u64,
+        };
+        LocationWord { word }
+    }
+
+    /// Returns the location.
+    #[inline(always)]
+    pub(crate) fn get(&self) -> Location
+        ensures value { result ≡ self.now }
+    {
+        let step = self.word % WIDTH_CODES;
+        if step == VACANT_CODE {
+            return Location::Vacant;
+        }
+        let width = Width {
+            step: step as usize,
+        };
+        Location::In(width, (self.word / WIDTH_CODES) as usize)
     }
 }

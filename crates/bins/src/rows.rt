@@ -3,8 +3,7 @@ ghost use Rattle.std.specs.Prelude.{◌≡◌, ◌+◌, ◌<◌, ◌≤◌, ◌+
 ghost use Rattle.std.specs.List.{swap_remove};
 ghost use Rattle.bins.specs.KeptRows.{string_at};
 
-use crate::location::MOST_ROWS;
-use crate::raw_rows::RawRows;
+use crate::raw_rows::{MOST_ROWS, RawRows};
 use bpf_model::NoMemory;
 use bpf_model::limits::{KEY_BYTES, VALUE_BYTES};
 use std::alloc::Global;

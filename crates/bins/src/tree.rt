@@ -9,8 +9,8 @@ ghost use Rattle.bins.specs.KeptRows.{string_at};
 ghost use Rattle.bins.specs.Table.{by_bytes};
 ghost use Rattle.bins.specs.Trees.{Locates, Sets, StandOnce};
 
+use crate::hashes::Seed;
 use crate::index::Index;
-use crate::mixing::Seed;
 use crate::rows::Rows;
 use crate::told_size::ToldSize;
 use bpf_model::{Key, NoMemory};

@@ -1,13 +1,13 @@
-//! The rows of one width, side by side in segments. All segments but the last are full.
-ghost use Rattle.std.specs.Prelude.{◌≡◌, ◌≢◌, ℕ, ◌+◌, ◌-◌, ◌*◌, ◌/◌, ◌<◌, ◌≤◌, ◌^◌, ◌++◌, ◌∷◌, [], length, set, IsTrue, OnOk, vec_capacity};
+//! The rows of one width, side by side in segments. All segments but the last are full. A segment is memory of a fixed size for
+//! rows of any one width. A row has the position whose location names it, and a key and its value, each after its length.
+ghost use Rattle.std.specs.Prelude.{◌≡◌, ◌≢◌, ℕ, ◌+◌, ◌-◌, ◌*◌, ◌/◌, ◌<◌, ◌≤◌, ◌^◌, ◌++◌, ◌∷◌, [], length, set, IsTrue, OnOk, vec_capacity, drop};
 ghost use Rattle.std.specs.List.{swap_remove};
-ghost use Rattle.bins.specs.KeptRows.{kept, nobody, row_at};
-ghost use Rattle.bins.specs.Segments.{AreFew, HoldRows, HoldsSlot, IsClosed, IsOpened, IsSameBut, KeptWidth, slot};
+ghost use Rattle.bins.specs.KeptRows.{kept, nobody, row_at, HoldsRow, row_in, key_in, number, value_in, word_of};
+ghost use Rattle.bins.specs.Segments.{AreFew, HoldRows, HoldsSlot, IsClosed, IsOpened, IsSameBut, KeptWidth, slot, KeepsAll, KeepsOthers, part};
 
-use crate::row::{HEAD_BYTES, key_of, owner_of, value_of};
-use crate::segment::{SEGMENT_BYTES, Segment};
 use bpf_model::NoMemory;
 use bpf_model::limits::{KEY_BYTES, VALUE_BYTES};
+use byteorder::{ByteOrder, LittleEndian};
 use std::alloc::Global;
 use std::marker::Model;
 
@@ -304,4 +304,322 @@ impl WidthRows {
         }
         Ok(())
     }
+}
+
+/// The number of bytes of a segment: 512 of the longest rows.
+pub const SEGMENT_BYTES: usize = 564_224;
+
+/// Bytes with room for `SEGMENT_BYTES`. It is only as long as rows needed so far, so nothing beyond is touched.
+#[derive(Drop)]
+pub struct Segment {
+    bytes: Vec<u8>,
+}
+
+impl Model for Segment {
+    ghost use Rattle.std.specs.Prelude.{List, ℕ, ◌≤◌, vec_capacity};
+    ghost use Rattle.bins.specs.declared.width_rows.TheConstants.{SEGMENT_BYTES};
+
+    ghost Value = { List ℕ };
+
+    ghost view = { λ segment. segment.bytes.items };
+
+    ghost invariant = { λ segment. SEGMENT_BYTES ≤ vec_capacity segment.bytes };
+}
+
+impl Segment {
+    /// Makes an empty segment. Returns `NoMemory` if the request for its memory is refused.
+    pub(crate) fn new(alloc: Global) -> Result<Segment, NoMemory> {
+        let bytes = Vec::with_capacity(alloc, SEGMENT_BYTES)?;
+        Ok(Segment { bytes })
+    }
+
+    /// Returns some of its bytes.
+    #[inline(always)]
+    pub(crate) fn row(&self, start: usize, stride: usize) -> &[u8]
+        requires { start + stride ≤ length self.now }
+        ensures value { result.now ≡ part self.now start stride }
+        ensures wide { length result.now ≡ stride }
+    {
+        &self.bytes[start..start + stride]
+    }
+
+    /// Returns how many of its bytes were touched so far.
+    pub(crate) fn touched(&self) -> usize {
+        self.bytes.len()
+    }
+
+    /// Returns how many bytes up to this end were not touched yet.
+    pub(crate) fn untouched(&self, end: usize) -> usize {
+        end.saturating_sub(self.bytes.len())
+    }
+
+    /// Makes it at least this many bytes long; new bytes are zero. Returns how many are new.
+    #[inline(always)]
+    fn reach(&mut self, end: usize) -> usize
+        requires { end ≤ SEGMENT_BYTES }
+        ensures enough { end ≤ length self.new }
+        ensures all { KeepsAll self.old self.new }
+    {
+        let more = self.untouched(end);
+        if self.bytes.len() < end {
+            let grown = self.bytes.resize(end, 0);
+            prove!(grown.is_ok());
+        }
+        more
+    }
+
+    /// Writes a row of this many bytes. Returns how many bytes of the segment it touched first.
+    #[inline(always)]
+    pub(crate) fn write(
+        &mut self,
+        start: usize,
+        stride: usize,
+        owner: usize,
+        key: &[u8],
+        value: &[u8],
+    ) -> usize
+        requires range { start + stride ≤ SEGMENT_BYTES }
+        requires fit { HEAD_BYTES + length key.now + length value.now ≤ stride }
+        requires key { length key.now ≤ KEY_BYTES }
+        requires value { length value.now ≤ VALUE_BYTES }
+        ensures holds { HoldsSlot (part self.new start stride) stride }
+        ensures row { row_in (part self.new start stride) ≡ kept key.now value.now owner }
+        ensures others { KeepsOthers start stride self.old self.new }
+    {
+        let touched = self.reach(start + stride);
+        write(&mut self.bytes[start..start + stride], owner, key, value);
+        touched
+    }
+
+    /// Sets the value of a row.
+    #[inline(always)]
+    pub(crate) fn set_value(&mut self, start: usize, stride: usize, value: &[u8])
+        requires range { start + stride ≤ length self.old }
+        requires old { HoldsRow (part self.old start stride) }
+        requires fit { HEAD_BYTES + length (row_in (part self.old start stride)).key + length value.now ≤ stride }
+        requires value { length value.now ≤ VALUE_BYTES }
+        ensures holds { HoldsSlot (part self.new start stride) stride }
+        ensures row { row_in (part self.new start stride) ≡ kept (row_in (part self.old start stride)).key value.now
+            (row_in (part self.old start stride)).owner }
+        ensures others { KeepsOthers start stride self.old self.new }
+    {
+        set_value(&mut self.bytes[start..start + stride], value);
+    }
+
+    /// Writes into a row which position's location names it.
+    #[inline(always)]
+    pub(crate) fn set_owner(&mut self, start: usize, stride: usize, owner: usize)
+        requires range { start + stride ≤ length self.old }
+        requires old { HoldsRow (part self.old start stride) }
+        ensures holds { HoldsSlot (part self.new start stride) stride }
+        ensures row { row_in (part self.new start stride) ≡ kept (row_in (part self.old start stride)).key
+            (row_in (part self.old start stride)).value owner }
+        ensures others { KeepsOthers start stride self.old self.new }
+    {
+        set_owner(&mut self.bytes[start..start + stride], owner);
+    }
+
+    /// Copies a row over another.
+    #[inline(always)]
+    pub(crate) fn copy_from(&mut self, start: usize, row: &[u8])
+        requires range { start + length row.now ≤ length self.old }
+        ensures row { part self.new start (length row.now) ≡ row.now }
+        ensures others { KeepsOthers start (length row.now) self.old self.new }
+    {
+        self.bytes[start..start + row.len()].copy_from_slice(row);
+    }
+
+    /// Copies one of its own rows over another.
+    #[inline(always)]
+    pub(crate) fn copy_within(&mut self, from: usize, start: usize, stride: usize)
+        requires range { start + stride ≤ length self.old }
+        requires from { from + stride ≤ length self.old }
+        ensures row { part self.new start stride ≡ part self.old from stride }
+        ensures others { KeepsOthers start stride self.old self.new }
+    {
+        self.bytes.copy_within(from..from + stride, start);
+    }
+}
+
+/// The bytes that a row takes beside its key and its value: eight for its owner, two for the key's length and four for the
+/// value's.
+pub const HEAD_BYTES: usize = 14;
+
+/// Returns the length of a key, read from two bytes.
+#[inline(always)]
+#[tactic(auto, unfolding(crate::specs::KeptRows::number, crate::specs::KeptRows::word_of))]
+fn key_length(bytes: &[u8]) -> usize
+    requires { 2 ≤ length bytes.now }
+    ensures value { result ≡ number 2 bytes.now }
+{
+    LittleEndian::read_u16(bytes) as usize
+}
+
+/// Writes the length of a key.
+#[inline(always)]
+#[tactic(auto, unfolding(crate::specs::KeptRows::number, crate::specs::KeptRows::word_of))]
+fn put_key_length(bytes: &mut [u8], many: usize)
+    requires range { 2 ≤ length bytes.old }
+    requires small { many < 2 ^ 16 }
+    ensures after { bytes.new ≡ word_of 2 many ++ drop 2 bytes.old }
+{
+    LittleEndian::write_u16(bytes, many as u16);
+}
+
+/// Returns the length of a value, read from four bytes.
+#[inline(always)]
+#[tactic(auto, unfolding(crate::specs::KeptRows::number, crate::specs::KeptRows::word_of))]
+fn value_length(bytes: &[u8]) -> usize
+    requires { 4 ≤ length bytes.now }
+    ensures value { result ≡ number 4 bytes.now }
+{
+    LittleEndian::read_u32(bytes) as usize
+}
+
+/// Writes the length of a value.
+#[inline(always)]
+#[tactic(auto, unfolding(crate::specs::KeptRows::number, crate::specs::KeptRows::word_of))]
+fn put_value_length(bytes: &mut [u8], many: usize)
+    requires range { 4 ≤ length bytes.old }
+    requires small { many < 2 ^ 32 }
+    ensures after { bytes.new ≡ word_of 4 many ++ drop 4 bytes.old }
+{
+    LittleEndian::write_u32(bytes, many as u32);
+}
+
+/// Returns the owner of a row, read from eight bytes.
+#[inline(always)]
+#[tactic(auto, unfolding(crate::specs::KeptRows::number, crate::specs::KeptRows::word_of))]
+fn owner_at(bytes: &[u8]) -> usize
+    requires { 8 ≤ length bytes.now }
+    ensures value { result ≡ number 8 bytes.now }
+{
+    LittleEndian::read_u64(bytes) as usize
+}
+
+/// Writes the owner of a row.
+#[inline(always)]
+#[tactic(auto, unfolding(crate::specs::KeptRows::number, crate::specs::KeptRows::word_of))]
+fn put_owner(bytes: &mut [u8], owner: usize)
+    requires { 8 ≤ length bytes.old }
+    ensures after { bytes.new ≡ word_of 8 owner ++ drop 8 bytes.old }
+{
+    LittleEndian::write_u64(bytes, owner as u64);
+}
+
+/// Returns the key of a row.
+#[inline(always)]
+pub(crate) fn key_of(row: &[u8]) -> &[u8]
+    requires { HoldsRow row.now }
+    ensures value { result.now ≡ key_in row.now }
+    ensures fits { length result.now ≤ KEY_BYTES }
+{
+    let len = key_length(&row[8..]);
+    &row[10..10 + len]
+}
+
+/// Returns the value of a row.
+#[inline(always)]
+pub(crate) fn value_of(row: &[u8]) -> &[u8]
+    requires { HoldsRow row.now }
+    ensures value { result.now ≡ value_in row.now }
+    ensures fits { length result.now ≤ VALUE_BYTES }
+{
+    let start = 10 + key_length(&row[8..]);
+    let len = value_length(&row[start..]);
+    &row[start + 4..start + 4 + len]
+}
+
+/// Returns the position whose location names the row.
+#[inline(always)]
+pub(crate) fn owner_of(row: &[u8]) -> usize
+    requires { HoldsRow row.now }
+    ensures value { result ≡ (row_in row.now).owner }
+{
+    owner_at(row)
+}
+
+/// Writes into a row which position's location names it.
+#[inline(always)]
+pub(crate) fn set_owner(row: &mut [u8], owner: usize)
+    requires { HoldsRow row.old }
+    ensures row { row_in row.new ≡ kept (row_in row.old).key (row_in row.old).value owner }
+    ensures holds { HoldsRow row.new }
+    ensures same { length row.new ≡ length row.old }
+{
+    put_owner(row, owner);
+}
+
+/// Writes a string at the start of these bytes. If it has eight bytes, as a number has, they are written as one word.
+#[inline(always)]
+fn put_bytes(rest: &mut [u8], bytes: &[u8])
+    requires { length bytes.now ≤ length rest.old }
+    ensures after { rest.new ≡ bytes.now ++ drop (length bytes.now) rest.old }
+{
+    match <[u8; 8]>::try_from(bytes) {
+        Ok(number) => rest[..8].copy_from_slice(&number),
+        Err(_) => rest[..bytes.len()].copy_from_slice(bytes),
+    }
+}
+
+/// Writes a value at the start of these bytes, after its length.
+#[inline(always)]
+fn put_value(rest: &mut [u8], value: &[u8])
+    requires range { 4 + length value.now ≤ length rest.old }
+    requires fits { length value.now ≤ VALUE_BYTES }
+    ensures after { rest.new ≡ word_of 4 (length value.now) ++ (value.now ++ drop (4 + length value.now) rest.old) }
+{
+    put_value_length(rest, value.len());
+    put_bytes(&mut rest[4..], value);
+}
+
+/// Writes a key at the start of these bytes, after its length.
+#[inline(always)]
+fn put_key(rest: &mut [u8], key: &[u8])
+    requires range { 2 + length key.now ≤ length rest.old }
+    requires fits { length key.now ≤ KEY_BYTES }
+    ensures after { rest.new ≡ word_of 2 (length key.now) ++ (key.now ++ drop (2 + length key.now) rest.old) }
+{
+    put_key_length(rest, key.len());
+    put_bytes(&mut rest[2..], key);
+}
+
+/// Writes a key and a value at the start of these bytes, each after its length.
+#[inline(always)]
+fn put_strings(rest: &mut [u8], key: &[u8], value: &[u8])
+    requires range { 6 + length key.now + length value.now ≤ length rest.old }
+    requires key { length key.now ≤ KEY_BYTES }
+    requires value { length value.now ≤ VALUE_BYTES }
+    ensures after { rest.new ≡ word_of 2 (length key.now) ++ (key.now ++ (word_of 4 (length value.now) ++ (value.now ++ drop (6 + length key.now + length value.now) rest.old))) }
+{
+    put_key(rest, key);
+    put_value(&mut rest[2 + key.len()..], value);
+}
+
+/// Writes a row.
+#[inline(always)]
+pub(crate) fn write(row: &mut [u8], owner: usize, key: &[u8], value: &[u8])
+    requires range { HEAD_BYTES + length key.now + length value.now ≤ length row.old }
+    requires key { length key.now ≤ KEY_BYTES }
+    requires value { length value.now ≤ VALUE_BYTES }
+    ensures row { row_in row.new ≡ kept key.now value.now owner }
+    ensures holds { HoldsRow row.new }
+    ensures same { length row.new ≡ length row.old }
+{
+    put_owner(row, owner);
+    put_strings(&mut row[8..], key, value);
+}
+
+/// Sets the value of a row.
+#[inline(always)]
+pub(crate) fn set_value(row: &mut [u8], value: &[u8])
+    requires holds { HoldsRow row.old }
+    requires range { HEAD_BYTES + length (row_in row.old).key + length value.now ≤ length row.old }
+    requires value { length value.now ≤ VALUE_BYTES }
+    ensures row { row_in row.new ≡ kept (row_in row.old).key value.now (row_in row.old).owner }
+    ensures holds { HoldsRow row.new }
+    ensures same { length row.new ≡ length row.old }
+{
+    let start = 10 + key_length(&row[8..]);
+    put_value(&mut row[start..], value);
 }

@@ -9,7 +9,6 @@
 //! answer by its parts.
 #![tactic(auto)]
 
-mod access;
 mod execution;
 mod machine;
 mod windows;

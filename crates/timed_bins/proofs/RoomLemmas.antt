@@ -4,9 +4,9 @@ use Rattle.std.specs.FinMap as map
 use Rattle.atomic_methods.specs.declared.reply.ReplyKind.{ReplyKind}
 use Rattle.atomic_methods.specs.Invocations.{Method}
 use Rattle.bins.specs.Table.{Table}
-use Rattle.timed_bins.specs.declared.calls.Made.{Made}
-use Rattle.timed_bins.specs.declared.calls.Room.{Room}
-use Rattle.timed_bins.specs.declared.calls.Room.TheVariants.{NotNeeded}
+use Rattle.timed_bins.specs.declared.timed.Made.{Made}
+use Rattle.timed_bins.specs.declared.timed.Room.{Room}
+use Rattle.timed_bins.specs.declared.timed.Room.TheVariants.{NotNeeded}
 use Rattle.timed_bins.specs.declared.timing.DeadlineChange.{DeadlineChange}
 use Rattle.timed_bins.specs.declared.timing.DeadlineChange.TheVariants.{Keep, Clear, Set, Extend}
 use Rattle.timed_bins.specs.Agendas.{Schedule, SetsDeadline, deadline_of}

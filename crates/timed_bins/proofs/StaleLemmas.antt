@@ -10,8 +10,8 @@ use Rattle.atomic_methods.specs.Plans.{reply_by}
 use Rattle.timed_bins.specs.declared.timing.DeadlineChange.{DeadlineChange}
 use Rattle.timed_bins.specs.declared.timing.Timing.{Timing}
 use Rattle.timed_bins.specs.declared.timing.TimedReply.{TimedReply}
-use Rattle.timed_bins.specs.declared.touch.Touch.{Touch}
-use Rattle.timed_bins.specs.declared.touch.Touch.TheVariants.{Gone, Reached, Missed}
+use Rattle.timed_bins.specs.declared.timed.Touch.{Touch}
+use Rattle.timed_bins.specs.declared.timed.Touch.TheVariants.{Gone, Reached, Missed}
 use Rattle.timed_bins.specs.Agendas.{AreOfEntries, HasRoom, Schedule, SetsDeadline, deadline_of, first_of, number_of}
 use Rattle.timed_bins.specs.Deadlines.{CallsWith, MakesCall, TimedTable, changed, is_over, timed_table}
 use Rattle.timed_bins.specs.Steps.{LooksFirst, change_at}

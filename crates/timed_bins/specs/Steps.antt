@@ -4,9 +4,9 @@ use Rattle.atomic_methods.specs.declared.reply.ReplyKind.{ReplyKind}
 use Rattle.atomic_methods.specs.Invocations.{Invocation, Method}
 use Rattle.atomic_methods.specs.Methods.{WouldAdd}
 use Rattle.bins.specs.Table.{Table}
-use Rattle.timed_bins.specs.declared.calls.Made.{Made}
-use Rattle.timed_bins.specs.declared.calls.Room.{Room}
-use Rattle.timed_bins.specs.declared.calls.Room.TheVariants.{NotNeeded, There, Added}
+use Rattle.timed_bins.specs.declared.timed.Made.{Made}
+use Rattle.timed_bins.specs.declared.timed.Room.{Room}
+use Rattle.timed_bins.specs.declared.timed.Room.TheVariants.{NotNeeded, There, Added}
 use Rattle.timed_bins.specs.declared.timing.DeadlineChange.{DeadlineChange}
 use Rattle.timed_bins.specs.declared.timing.Timing.{Timing}
 use Rattle.timed_bins.specs.Agendas.{HasRoom, Schedule, SetsDeadline, deadline_of}

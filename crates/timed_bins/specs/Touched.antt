@@ -3,8 +3,8 @@ use Rattle.std.specs.Prelude.{ℕ, true, false, Option, None}
 use Rattle.atomic_methods.specs.declared.reply.ReplyKind.{ReplyKind}
 use Rattle.atomic_methods.specs.declared.reply.ReplyKind.TheVariants.{None as NoValue, Some as SomeValue, Done as IsDone, Unfit as IsUnfit}
 use Rattle.atomic_methods.specs.Invocations.{Method, get, put, put_if_absent, remove, remove_if, replace, replace_if, compute, compute_if_absent, compute_if_present, merge}
-use Rattle.timed_bins.specs.declared.touch.Touch.{Touch}
-use Rattle.timed_bins.specs.declared.touch.Touch.TheVariants.{Gone, Reached, Missed}
+use Rattle.timed_bins.specs.declared.timed.Touch.{Touch}
+use Rattle.timed_bins.specs.declared.timed.Touch.TheVariants.{Gone, Reached, Missed}
 
 -- if the entry was there
 abbrev pub found : ReplyKind → Touch

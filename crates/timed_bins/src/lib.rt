@@ -9,15 +9,12 @@
 //! first deadline. `NoMemory` comes only if a call would add its key or may set a deadline. No call waits.
 #![tactic(auto)]
 
-mod agenda;
-mod calls;
 mod deadlines;
 mod number;
 mod stale;
 mod timed;
 mod timed_bins;
 mod timing;
-mod touch;
 
 pub use timed::Timed;
 pub use timed_bins::TimedBins;

@@ -6,10 +6,9 @@ ghost use Rattle.timed_bins.specs.Agendas.{AreOfEntries, HasRoom, SetsDeadline, 
 ghost use Rattle.timed_bins.specs.Deadlines.{CallsWith, asks_room, timed_table};
 ghost use Rattle.timed_bins.specs.Steps.{KeepsDeadlines};
 
-use crate::calls::Made;
 use crate::deadlines::Deadlines;
+use crate::timed::{Made, touch_of};
 use crate::timing::DeadlineChange;
-use crate::touch::touch_of;
 use atomic_methods::{HashedCall, Workspace, apply_to_stale};
 use bins::{Bins, HashedKey};
 use bpf_model::{NoMemory, Value};

@@ -1,5 +1,5 @@
 use Rattle.std.proofs.Common.{◌≡◌, refl, sym, ◌∙◌}
-use Rattle.bins.specs.declared.location.Location.TheVariants.{In}
+use Rattle.bins.specs.declared.raw_rows.Location.TheVariants.{In}
 use Rattle.bins.specs.KeptRows.{KeptRow, kept, location_at, row_at}
 use Rattle.bins.specs.Rows.{keys_in, lists_in, rows_in}
 use Rattle.bins.proofs.RowLemmas.{read_location, string_read}

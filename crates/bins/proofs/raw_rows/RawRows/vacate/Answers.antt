@@ -1,6 +1,6 @@
 use Rattle.std.proofs.Common.{rules, ◌≡◌, ◌<◌, [], length, set, sym, ap, refl, arith, ◌∙◌, get_or-set_same}
 use Rattle.std.proofs.lemmas.List.{length-set}
-use Rattle.bins.specs.declared.location.Location.TheVariants.{Vacant, In}
+use Rattle.bins.specs.declared.raw_rows.Location.TheVariants.{Vacant, In}
 use Rattle.bins.specs.KeptRows.{KeptRow, nobody, location_at}
 use Rattle.bins.specs.Rows.{keys_in, lists_in, values_in}
 use Rattle.bins.proofs.RowLemmas.{inside, no_more, read_location, vacant_read}
