@@ -1,6 +1,7 @@
 -- A worker's loop that collects.
-use Rattle.std.proofs.Common.{◌≡◌, ◌≢◌, ℕ, ◌+◌, ◌^◌, ◌%◌, ◌<◌, ◌≤◌, List, [], ◌∷◌, ◌++◌, inl, inr, refl, sym, ap, ◌∙◌, subst, arith, length, sum_by}
+use Rattle.std.proofs.Common.{◌≡◌, ◌≢◌, ℕ, ◌+◌, ◌^◌, ◌%◌, ◌<◌, ◌≤◌, List, [], ◌∷◌, ◌++◌, inl, inr, refl, sym, ap, ◌∙◌, subst, arith, length, length-append, sum_by}
 use Rattle.std.proofs.lemmas.Bool.{cases_eq}
+use Rattle.std.proofs.lemmas.List.{append_assoc}
 use Rattle.std.proofs.lemmas.List.Sums.{sum_by-append}
 use Rattle.stripe_rule.specs.declared.view.View.{View}
 use Rattle.stripe_rule.specs.Gains.{Adds}
@@ -13,7 +14,7 @@ use Rattle.bin_stripes.specs.Invoked.{AreOf}
 use Rattle.bin_stripes.specs.Passes.{PassState}
 use Rattle.bulk_walks.specs.Walks.{Walked, Each, IsScan, MayScan}
 use Rattle.bulk_walks.specs.Turns.{WorkerFinds}
-use Rattle.bulk_walks.proofs.Sums.{with_at, with_at-same, with_at-other, turn_sum-more, turn_sum-past}
+use Rattle.bulk_walks.proofs.Sums.{with_at, with_at-same, with_at-other, turn_sum-more, turn_sum-past, sum_of_ones}
 use Rattle.bulk_walks.proofs.TurnLemmas.{walked_none, walked_more, walked_past, walked_stop, walked_as, scanned_more}
 
 -- a scan that was made is allowed
@@ -53,6 +54,12 @@ module _ (all workers worker : ℕ) (v : View GhostAction) where
         sum = λ h. ap (λ (es : List Entry). sum_by h es) added ∙ sum_by-append h found copies ∙ ap (λ m. sum_by h found + m) (weigh h) ∙ sym (sum_by-append h found entries) ∙ more.sum h;
       }
 
+  -- copies of the scanned entries wait, after the early ones
+  pub finds_waiting : (n : ℕ) (u w : View GhostAction) (early waiting after entries copies : List Entry) → WorkerFinds all n workers worker v u (early ++ waiting) → n % workers ≡ worker → w.passes ≡ u.passes
+      → Adds u n (own_events u (scanned entries ∷ [])) w → AreOf all n entries → length entries < 2 ^ 57 → WeighSame copies entries → after ≡ waiting ++ copies → WorkerFinds all (n + 1) workers worker v w (early ++ after)
+  finds_waiting n u w early waiting after entries copies f turn same a are few weigh added =
+      finds_copied n u w (early ++ waiting) (early ++ after) entries copies f turn same a are few weigh (ap (λ (es : List Entry). early ++ es) added ∙ sym (append_assoc early waiting copies))
+
   pub finds_past : (n : ℕ) (u : View GhostAction) (found : List Entry) → WorkerFinds all n workers worker v u found → n % workers ≢ worker → WorkerFinds all (n + 1) workers worker v u found
   finds_past n u found f miss = record {
     scans = f.scans;
@@ -77,3 +84,13 @@ module _ (all workers worker : ℕ) (v : View GhostAction) where
 pub finds_at : (all n workers worker : ℕ) (v : View GhostAction) (p q : PassState) (es fs : List Entry) → WorkerFinds all n workers worker v p.view es → q ≡ p → fs ≡ es → WorkerFinds all n workers worker v q.view fs
 finds_at all n workers worker v p q es fs f same list =
     subst (λ (p : PassState). WorkerFinds all n workers worker v p.view fs) (sym same) (subst (λ (es : List Entry). WorkerFinds all n workers worker v p.view es) (sym list) f)
+
+-- no more came than were scanned
+pub copies_few : (waiting after entries copies : List Entry) → length entries < 2 ^ 57 → WeighSame copies entries → after ≡ waiting ++ copies → length after < length waiting + 2 ^ 57
+copies_few waiting after entries copies few weigh added =
+    let w = weigh (λ _. 1) in
+    let one = sum_of_ones copies in
+    let other = sum_of_ones entries in
+    let all = ap (λ (es : List Entry). length es) added in
+    let both = length-append waiting copies in
+    omega (arith, few, w, one, other, all, both)

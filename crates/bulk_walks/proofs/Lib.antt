@@ -11,6 +11,7 @@ pub mod StandLemmas
 pub mod MeaningLemmas
 pub mod OrderLemmas
 pub mod SearchLemmas
+pub mod GatherLemmas
 pub mod PairLemmas
 pub mod ReplaceLemmas
 pub mod CountLemmas

@@ -14,28 +14,31 @@ use Rattle.bins.proofs.SameEntries.{rises, at_key}
 use Rattle.atomic_methods.specs.declared.walk_reply.WalkKind.{WalkKind}
 use Rattle.atomic_methods.specs.declared.walk_reply.WalkKind.TheVariants.{Search, ForEach}
 use Rattle.atomic_methods.specs.declared.walk_reply.WalkReply.{WalkReply}
-use Rattle.bulk_walks.specs.declared.answering.Part.{Part}
+use Rattle.bulk_walks.specs.declared.part.Part.{Part}
 use Rattle.bulk_walks.specs.declared.answers.Answers.{Answers}
-use Rattle.bulk_walks.specs.Turns.{found_in, items_in}
-use Rattle.bulk_walks.specs.Kept.{StandsFor, StandForAll, IsAnswered, AreAnswered, IsFirst, kept_of, kept_in}
+use Rattle.bulk_walks.specs.Turns.{items_in}
+use Rattle.bulk_walks.specs.Runs.{AreGathered, lists_with}
+use Rattle.bulk_walks.specs.Kept.{StandsFor, StandForAll, IsAnswered, AreAnswered, IsGathered, IsFirst, kept_of, kept_in}
 use Rattle.bulk_walks.specs.Merges.{comes_first}
 use Rattle.bulk_walks.proofs.Sums.{sum_of_ones}
 use Rattle.bulk_walks.proofs.FirstLemmas.{first_same, first_of_both}
 
 -- if each part has its answers, they are the answers to the entries of the parts
 pub are_answered : (kind : WalkKind) (checked : Checked) (arg : Option (List ℕ)) (old new : List Part) (all : List Answers) → length new ≡ length old
-    → ((i : ℕ) (d : Part) → i < length old → IfSome (get_or new i d).answers (λ answers. IsAnswered kind checked arg (get_or old i d).found answers))
-    → map Some all ≡ map (λ part. part.answers) new → AreAnswered kind checked arg (found_in old) all
-are_answered kind checked arg [] [] [] len each told = record { replies = []; are_replies = tt; stand = tt }
-are_answered kind checked arg [] [] (a ∷ all) len each told = absurd (let n = ap (λ (os : List (Option Answers)). length os) told in omega (arith, n))
-are_answered kind checked arg [] (y ∷ new) all len each told = absurd (omega (arith, len))
-are_answered kind checked arg (x ∷ old) [] all len each told = absurd (omega (arith, len))
-are_answered kind checked arg (x ∷ old) (y ∷ new) [] len each told = absurd (let n = ap (λ (os : List (Option Answers)). length os) told in omega (arith, n))
-are_answered kind checked arg (x ∷ old) (y ∷ new) (a ∷ all) len each told =
+    → ((i : ℕ) (d : Part) → i < length old → IfSome (get_or new i d).answers (λ answers. (early : List Entry) → IsGathered kind checked arg early (get_or old i d).gathered → IsAnswered kind checked arg (early ++ (get_or old i d).waiting) answers))
+    → map Some all ≡ map (λ part. part.answers) new → (earlies : List (List Entry)) → AreGathered kind checked arg earlies old → AreAnswered kind checked arg (lists_with earlies old) all
+are_answered kind checked arg [] [] [] len each told [] had = record { replies = []; are_replies = tt; stand = tt }
+are_answered kind checked arg [] [] [] len each told (early ∷ earlies) had = absurd had
+are_answered kind checked arg [] [] (a ∷ all) len each told earlies had = absurd (let n = ap (λ (os : List (Option Answers)). length os) told in omega (arith, n))
+are_answered kind checked arg [] (y ∷ new) all len each told earlies had = absurd (omega (arith, len))
+are_answered kind checked arg (x ∷ old) [] all len each told earlies had = absurd (omega (arith, len))
+are_answered kind checked arg (x ∷ old) (y ∷ new) [] len each told earlies had = absurd (let n = ap (λ (os : List (Option Answers)). length os) told in omega (arith, n))
+are_answered kind checked arg (x ∷ old) (y ∷ new) (a ∷ all) len each told [] had = absurd had
+are_answered kind checked arg (x ∷ old) (y ∷ new) (a ∷ all) len each told (early ∷ earlies) had =
     let first : Some a ≡ y.answers = ap (λ (os : List (Option Answers)). get_or os 0 None) told in
     let others : map Some all ≡ map (λ part. part.answers) new = ap (λ (os : List (Option Answers)). drop 1 os) told in
-    let here : IsAnswered kind checked arg x.found a = subst (λ (o : Option Answers). IfSome o (λ answers. IsAnswered kind checked arg x.found answers)) (sym first) (each 0 x (omega arith)) in
-    let rest = are_answered kind checked arg old new all (omega (arith, len)) (λ i d low. each (suc i) d (omega (arith, low))) others in
+    let here : IsAnswered kind checked arg (early ++ x.waiting) a = subst (λ (o : Option Answers). IfSome o (λ answers. (early : List Entry) → IsGathered kind checked arg early x.gathered → IsAnswered kind checked arg (early ++ x.waiting) answers)) (sym first) (each 0 x (omega arith)) early had.0 in
+    let rest = are_answered kind checked arg old new all (omega (arith, len)) (λ i d low. each (suc i) d (omega (arith, low))) others earlies had.1 in
     record {
       replies = here.reply ∷ rest.replies;
       are_replies = (here.is_reply, rest.are_replies);

@@ -1,5 +1,5 @@
 -- What a worker keeps of the program's answers on its entries.
-use Rattle.std.specs.Prelude.{◌≡◌, ℕ, ⊤, Bool, true, false, List, [], ◌∷◌, ◌+◌, Option, Some, None, Result, Ok, Err, length, map, sum_by, count_by, if◌then◌else◌}
+use Rattle.std.specs.Prelude.{◌≡◌, ℕ, ⊤, Bool, true, false, List, [], ◌∷◌, ◌++◌, ◌+◌, Option, Some, None, Result, Ok, Err, length, map, sum_by, count_by, if◌then◌else◌}
 use Rattle.std.specs.List.Sorted.{IsSortedBy}
 use Rattle.std.specs.Ordering.{is_eq}
 use Rattle.std.specs.declared.cmp.Ordering.TheVariants.{Less}
@@ -17,6 +17,7 @@ use Rattle.atomic_methods.specs.declared.walk_reply.WalkReply.{WalkReply}
 use Rattle.atomic_methods.specs.Plans.{outcome_by}
 use Rattle.atomic_methods.specs.Replies.{present, IsReply}
 use Rattle.bulk_walks.specs.declared.answers.Answers.{Answers}
+use Rattle.bulk_walks.specs.declared.part.Gathered.{Gathered}
 use Rattle.bulk_walks.specs.Turns.{AreReplies}
 
 -- 1 at the entries with this key
@@ -39,6 +40,11 @@ IsFirst weigh (entry ∷ other ∷ entries) = ⊥
 abbrev pub Keeps : WalkKind → List Entry → List Entry → List ℕ → Type 0
 Keeps Search all items order = IsFirst (λ weight. sum_by weight all) items × (order ≡ [])
 Keeps ForEach all items order = WeighSame (entries_at items order) all × IsSortedBy comes_before (entries_at items order)
+
+-- before they are put in order
+abbrev pub KeepsSome : WalkKind → List Entry → List Entry → Type 0
+KeepsSome Search all items = IsFirst (λ weight. sum_by weight all) items
+KeepsSome ForEach all items = items ≡ all
 
 -- a worker's answers stand for the reply to a walk that gives all answers
 pub record StandsFor (kind : WalkKind) (reply : WalkReply) (answers : Answers) : Type 0 where
@@ -83,6 +89,19 @@ pub record RunsOnAll (checked : Checked) (arg : Option (List ℕ)) (entries item
   pub are_outcomes : AreOutcomes checked arg entries outcomes
   pub answers : items ≡ present entries outcomes
   pub unfit_is : unfit ≡ count_by is_unfit outcomes
+
+-- the program ran on these entries, and what the walk keeps of its answers was added to the items
+pub record AddsRuns (kind : WalkKind) (checked : Checked) (arg : Option (List ℕ)) (entries old new : List Entry) (unfit : ℕ) : Type 0 where
+  pub more : List Entry
+  pub runs : RunsOnAll checked arg entries more unfit
+  pub kept : (all : List Entry) → KeepsSome kind all old → KeepsSome kind (all ++ more) new
+
+-- what a worker has gathered once the program has run on these entries
+pub record IsGathered (kind : WalkKind) (checked : Checked) (arg : Option (List ℕ)) (entries : List Entry) (gathered : Gathered) : Type 0 where
+  pub all : List Entry
+  pub runs : RunsOnAll checked arg entries all gathered.unfit
+  pub scanned : gathered.scanned ≡ length entries
+  pub kept : KeepsSome kind all gathered.items
 
 -- the one of them with the least key
 pub record FindsFirst (checked : Checked) (arg : Option (List ℕ)) (entries items : List Entry) (unfit : ℕ) : Type 0 where

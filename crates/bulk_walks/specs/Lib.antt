@@ -3,3 +3,4 @@ pub mod Turns
 pub mod Merges
 pub mod Kept
 pub mod Leads
+pub mod Runs

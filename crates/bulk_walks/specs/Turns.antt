@@ -11,7 +11,6 @@ use Rattle.bin_stripes.specs.Passes.{PassState}
 use Rattle.atomic_methods.specs.declared.walk_reply.WalkKind.TheVariants.{ForEach}
 use Rattle.atomic_methods.specs.declared.walk_reply.WalkReply.{WalkReply}
 use Rattle.atomic_methods.specs.Replies.{IsReply}
-use Rattle.bulk_walks.specs.declared.answering.Part.{Part}
 use Rattle.bulk_walks.specs.Walks.{IsTurn, Walked, AllWalked, Each, IsScan, MayScan, IsReplaced, sum_below}
 
 -- the sum of f over the stripes below n whose turn is this worker's
@@ -39,18 +38,6 @@ pub record WorkerFinds (all n workers worker : ℕ) (v w : View GhostAction) (fo
   pub bounded : (k : ℕ) → IsTurn n workers worker k → length (scans k) < 2 ^ 57
   pub sum : (weight : Entry → ℕ) → sum_by weight found ≡ turn_sum workers worker (λ k. sum_by weight (scans k)) n
 
--- the entries of a worker's answer
-abbrev pub found_of : Result (List Entry) NoMemory → List Entry
-found_of (Ok found) = found
-found_of (Err e) = []
-
--- each worker's finds
-pub record EachFinds (n : ℕ) (before : List PassState) (rs : List (Result (List Entry) NoMemory)) (after : List PassState) : Type 0 where
-  pub answers : length rs ≡ length before
-  pub left : length after ≡ length before
-  pub done : (i : ℕ) (d : PassState) (e : Result (List Entry) NoMemory) → i < length before → IfOk (slice_index_or rs i e) (λ found. WorkerFinds n n (length before) i (slice_index_or before i d).view (slice_index_or after i d).view found)
-  pub part : (i : ℕ) (d : PassState) → i < length before → Walked n (length before) i MayScan (slice_index_or before i d).view (slice_index_or after i d).view
-
 -- all stripes were scanned; these lists have each entry as often as the scans
 pub record FindsAll (n : ℕ) (before after : List PassState) (lists : List (List Entry)) : Type 0 where
   pub scans : ℕ → List Entry
@@ -62,10 +49,6 @@ pub record FindsAll (n : ℕ) (before after : List PassState) (lists : List (Lis
 -- the items of each reply
 abbrev pub items_in : List WalkReply → List (List Entry)
 items_in replies = map (λ reply. reply.items) replies
-
--- the entries of each part
-abbrev pub found_in : List Part → List (List Entry)
-found_in parts = map (λ part. part.found) parts
 
 -- each reply is that to a walk over the entries at its position
 abbrev pub AreReplies : Checked → Option (List ℕ) → List (List Entry) → List WalkReply → Type 0

@@ -1,49 +1,51 @@
 //! The program's answers on the entries that a walk found.
-ghost use Rattle.std.specs.Prelude.{◌≡◌, ℕ, ◌<◌, IfOk, IfSome, Some, length, map, slice_index_or};
-ghost use Rattle.bulk_walks.specs.Turns.{found_in};
-ghost use Rattle.bulk_walks.specs.Kept.{IsAnswered, AreAnswered};
-ghost use Rattle.bulk_walks.specs.declared.answering.Part.{Part as WorkersPart};
+ghost use Rattle.std.specs.Prelude.{◌≡◌, ℕ, ◌+◌, ◌<◌, ◌^◌, ◌++◌, List, IfOk, IfSome, Some, length, map, slice_index_or};
+ghost use Rattle.bins.specs.Table.{Entry};
+ghost use Rattle.bulk_walks.specs.Kept.{IsAnswered, IsGathered, AreAnswered};
+ghost use Rattle.bulk_walks.specs.Runs.{AreGathered, lists_with};
+ghost use Rattle.bulk_walks.specs.declared.part.Part.{Part as WorkersPart};
 
 use crate::answers::Answers;
-use crate::running::{all_answers, first_answer};
+use crate::part::{Gathered, Part};
 use crate::walk::Walk;
 use atomic_methods::WalkKind;
 use bins::EntryList;
 use bpf_model::NoMemory;
 use std::alloc::Global;
-use std::thread;
 use std::thread::Threads;
+use std::{mem, thread};
 use workers::for_each_apart;
 
-/// One worker's entries and its answers. It has none before the program has run, or if it was refused memory.
-#[derive(Drop)]
-pub(crate) struct Part {
-    pub(crate) found: EntryList,
-    pub(crate) answers: Option<Answers>,
-}
-
-/// Runs the program on these entries, and keeps what this kind of walk gives.
-fn answers_on(alloc: Global, walk: &Walk<'_>, entries: &EntryList) -> Result<Answers, NoMemory>
-    ensures { IfOk result (λ answers. IsAnswered walk.now.kind walk.now.program.now walk.now.arg.now entries.now answers) }
+/// Runs the program on the waiting entries too, and returns what this kind of walk gives.
+fn answers_with(
+    alloc: Global,
+    walk: &Walk<'_>,
+    mut gathered: Gathered,
+    waiting: &EntryList,
+) -> Result<Answers, NoMemory>
+    requires room { gathered.scanned + length waiting.now < 2 ^ 64 }
+    ensures { IfOk result (λ answers. (early : List Entry) → IsGathered walk.now.kind walk.now.program.now walk.now.arg.now early gathered
+        → IsAnswered walk.now.kind walk.now.program.now walk.now.arg.now (early ++ waiting.now) answers) }
 {
-    match walk.kind {
-        WalkKind::Search => first_answer(alloc, entries, walk.program, walk.arg),
-        WalkKind::ForEach => all_answers(alloc, entries, walk.program, walk.arg),
-    }
+    gathered.add(alloc, walk, waiting)?;
+    gathered.ordered(alloc, walk.kind)
 }
 
-/// Runs the program on the entries of one part.
+/// Runs the program on the waiting entries of one part.
 fn answer_part(alloc: Global, walk: &Walk<'_>, part: &mut Part)
-    ensures { IfSome part.new.answers (λ answers. IsAnswered walk.now.kind walk.now.program.now walk.now.arg.now part.old.found answers) }
+    ensures { IfSome part.new.answers (λ answers. (early : List Entry) → IsGathered walk.now.kind walk.now.program.now walk.now.arg.now early part.old.gathered
+        → IsAnswered walk.now.kind walk.now.program.now walk.now.arg.now (early ++ part.old.waiting) answers) }
 {
-    if let Ok(answers) = answers_on(alloc, walk, &part.found) {
+    let waiting = mem::replace(&mut part.waiting, EntryList::new(alloc));
+    let gathered = mem::replace(&mut part.gathered, Gathered::new(alloc));
+    if let Ok(answers) = answers_with(alloc, walk, gathered, &waiting) {
         part.answers = Some(answers);
     } else {
         part.answers = None;
     }
 }
 
-/// Runs the program on the entries of each part, each in a thread of its own or one after the other.
+/// Runs the program on the waiting entries of each part, each in a thread of its own or one after the other.
 fn answer_each<R: Threads + Sync>(
     rt: &R,
     alloc: Global,
@@ -51,7 +53,9 @@ fn answer_each<R: Threads + Sync>(
     parts: &mut [Part],
     apart: bool,
 )
-    ensures each { (i : ℕ) (d : WorkersPart) → i < length parts.old → IfSome (slice_index_or parts.new i d).answers (λ answers. IsAnswered walk.now.kind walk.now.program.now walk.now.arg.now (slice_index_or parts.old i d).found answers) }
+    ensures each { (i : ℕ) (d : WorkersPart) → i < length parts.old → IfSome (slice_index_or parts.new i d).answers (λ answers.
+        (early : List Entry) → IsGathered walk.now.kind walk.now.program.now walk.now.arg.now early (slice_index_or parts.old i d).gathered
+        → IsAnswered walk.now.kind walk.now.program.now walk.now.arg.now (early ++ (slice_index_or parts.old i d).waiting) answers) }
 {
     let call = |_, part: &mut Part| answer_part(alloc, walk, part);
     if apart {
@@ -76,7 +80,7 @@ fn answers_of(alloc: Global, parts: Vec<Part>) -> Result<Vec<Answers>, NoMemory>
     Ok(all)
 }
 
-/// Runs the program on the entries of all parts, each in a thread of its own or one after the other, and returns the
+/// Runs the program on the waiting entries of all parts, each in a thread of its own or one after the other, and returns the
 /// answers of each. Returns `NoMemory` if a request for memory is refused.
 pub(crate) fn answer_all<R: Threads + Sync>(
     rt: &R,
@@ -85,18 +89,25 @@ pub(crate) fn answer_all<R: Threads + Sync>(
     mut parts: Vec<Part>,
     apart: bool,
 ) -> Result<Vec<Answers>, NoMemory>
-    ensures { IfOk result (λ all. AreAnswered walk.now.kind walk.now.program.now walk.now.arg.now (found_in parts.items) all.items) }
+    ensures { IfOk result (λ all. (earlies : List (List Entry)) → AreGathered walk.now.kind walk.now.program.now walk.now.arg.now earlies parts.items
+        → AreAnswered walk.now.kind walk.now.program.now walk.now.arg.now (lists_with earlies parts.items) all.items) }
 {
     answer_each(rt, alloc, walk, &mut parts, apart);
     let all = answers_of(alloc, parts)?;
     Ok(all)
 }
 
-/// Returns how many entries the parts hold, capped at the greatest number.
-pub(crate) fn held_in(parts: &[Part]) -> u64 {
-    let mut held: u64 = 0;
+/// Returns how many entries were scanned, capped at the greatest number.
+pub(crate) fn scanned_in(parts: &[Part]) -> u64 {
+    let mut scanned: u64 = 0;
     for part in parts {
-        held = held.saturating_add(part.found.len() as u64);
+        let own = part.gathered.scanned + part.waiting.len() as u64;
+        scanned = scanned.saturating_add(own);
     }
-    held
+    scanned
+}
+
+/// Tests whether several threads would have something to do: answers to sort, or entries on which the program hasn't run.
+pub(crate) fn leave_work(kind: WalkKind, parts: &[Part]) -> bool {
+    matches!(kind, WalkKind::ForEach) || parts.iter().any(|part| !part.waiting.is_empty())
 }

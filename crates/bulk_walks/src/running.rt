@@ -1,11 +1,12 @@
-//! The program's runs on one worker's entries.
+//! The program's runs on entries.
 ghost use Rattle.std.specs.Prelude.{◌≡◌, ◌<◌, ◌≤◌, ◌++◌, ◌∷◌, [], All, List, ℕ, Some, IfOk, OnOk, length, option_copied};
 ghost use Rattle.bpf_model.specs.Fits.{HasInputBytes, input_of};
 ghost use Rattle.atomic_methods.specs.declared.walk_reply.WalkKind.TheVariants.{Search, ForEach};
-ghost use Rattle.bulk_walks.specs.Kept.{IsAnswered, IsOffered, RunsOnAll, FindsFirst, item_at};
+ghost use Rattle.bulk_walks.specs.Kept.{IsOffered, AddsRuns, FindsFirst, item_at};
 ghost use Rattle.bulk_walks.specs.Merges.{comes_first};
 
-use crate::answers::{Answers, leads_of, order_of};
+use crate::walk::Walk;
+use atomic_methods::WalkKind;
 use bins::EntryList;
 use bpf_machine::{Machine, run_into};
 use bpf_model::limits::{KEY_BYTES, VALUE_BYTES};
@@ -96,51 +97,28 @@ fn keep(items: &mut EntryList, most: usize, key: &[u8], answer: &[u8]) -> Result
     items.push(key, answer)
 }
 
-/// Runs the program on each entry in turn. Returns its answers with their keys, and how many entries don't fit.
-fn run_on_all(
-    alloc: Global,
+/// Runs the program on each entry in turn, and adds its answers with their keys to the items. Returns how many entries don't fit.
+fn add_all(
     entries: &EntryList,
     program: &Verified,
     arg: &Option<Value>,
-) -> Result<(EntryList, u64), NoMemory>
-    ensures { IfOk result (λ found. RunsOnAll program.now arg.now entries.now found.0 found.1) }
+    items: &mut EntryList,
+) -> Result<u64, NoMemory>
+    ensures adds { IfOk result (λ unfit. AddsRuns ForEach program.now arg.now entries.now items.old items.new unfit) }
+    ensures few { IfOk result (λ unfit. unfit ≤ length entries.now) }
 {
-    let mut items = EntryList::new(alloc);
     let count = entries.len();
     let mut bench = Workbench::new();
     let mut unfit = 0;
     for position in 0..count {
         let (key, value) = entries.get(position);
         match answer(program, key, value, arg, true, &mut bench) {
-            Ok(true) => keep(&mut items, count - position, key, bench.answer.as_slice())?,
+            Ok(true) => keep(items, count - position, key, bench.answer.as_slice())?,
             Ok(false) => {}
             Err(_) => unfit += 1,
         }
     }
-    Ok((items, unfit))
-}
-
-/// Runs the program on each entry in turn, and returns its answers with their keys, and the order of these. Only answers
-/// are sorted. Returns `NoMemory` if a request for memory is refused.
-pub(crate) fn all_answers(
-    alloc: Global,
-    entries: &EntryList,
-    program: &Verified,
-    arg: &Option<Value>,
-) -> Result<Answers, NoMemory>
-    ensures { IfOk result (λ answers. IsAnswered ForEach program.now arg.now entries.now answers) }
-{
-    let scanned = entries.len() as u64;
-    let (items, unfit) = run_on_all(alloc, entries, program, arg)?;
-    let order = order_of(alloc, &items)?;
-    let leads = leads_of(alloc, &items, &order)?;
-    Ok(Answers {
-        items,
-        order,
-        leads,
-        scanned,
-        unfit,
-    })
+    Ok(unfit)
 }
 
 /// The position of the entry with the least key so far at which the program answers bytes, with this answer; or none.
@@ -161,12 +139,24 @@ impl First {
             Some(position) => key.cmp(entries.key(position)).is_lt(),
         }
     }
+
+    /// Tests whether its key comes before the first one of these items.
+    fn is_before(&self, entries: &EntryList, items: &EntryList) -> bool
+        ensures { result ≡ comes_first (item_at entries.now self.now.position self.now.answer) items.now }
+    {
+        match self.position {
+            None => false,
+            Some(_) if items.is_empty() => true,
+            Some(position) => entries.key(position).cmp(items.key(0)).is_lt(),
+        }
+    }
 }
 
 /// Finds the least key at which the program answers bytes, and that answer. On an entry whose key is not less than the best
 /// one so far it doesn't run. Returns how many entries don't fit, too.
 fn find_first(entries: &EntryList, program: &Verified, arg: &Option<Value>) -> (First, u64)
-    ensures { FindsFirst program.now arg.now entries.now (item_at entries.now result.0.position result.0.answer) result.1 }
+    ensures few { result.1 ≤ length entries.now }
+    ensures first { FindsFirst program.now arg.now entries.now (item_at entries.now result.0.position result.0.answer) result.1 }
 {
     let mut bench = Workbench::new();
     let mut first = First {
@@ -189,26 +179,6 @@ fn find_first(entries: &EntryList, program: &Verified, arg: &Option<Value>) -> (
     (first, unfit)
 }
 
-/// Returns only the answer at the least key, and asks for memory for no other. Returns `NoMemory` if that is refused.
-pub(crate) fn first_answer(
-    alloc: Global,
-    entries: &EntryList,
-    program: &Verified,
-    arg: &Option<Value>,
-) -> Result<Answers, NoMemory>
-    ensures { IfOk result (λ answers. IsAnswered Search program.now arg.now entries.now answers) }
-{
-    let (first, unfit) = find_first(entries, program, arg);
-    let items = item_of(alloc, entries, &first)?;
-    Ok(Answers {
-        items,
-        order: Vec::new(alloc),
-        leads: Vec::new(alloc),
-        scanned: entries.len() as u64,
-        unfit,
-    })
-}
-
 /// Returns a list of the item, or an empty one.
 fn item_of(alloc: Global, entries: &EntryList, first: &First) -> Result<EntryList, NoMemory>
     ensures { IfOk result (λ items. items ≡ item_at entries.now first.now.position first.now.answer) }
@@ -218,4 +188,40 @@ fn item_of(alloc: Global, entries: &EntryList, first: &First) -> Result<EntryLis
         items.push(entries.key(position), first.answer.as_slice())?;
     }
     Ok(items)
+}
+
+/// Keeps the answer at the least key of these entries instead of the item, if it comes before that. Asks for memory for no other.
+/// Returns how many entries don't fit.
+fn keep_first(
+    alloc: Global,
+    entries: &EntryList,
+    program: &Verified,
+    arg: &Option<Value>,
+    items: &mut EntryList,
+) -> Result<u64, NoMemory>
+    ensures adds { IfOk result (λ unfit. AddsRuns Search program.now arg.now entries.now items.old items.new unfit) }
+    ensures few { IfOk result (λ unfit. unfit ≤ length entries.now) }
+{
+    let (first, unfit) = find_first(entries, program, arg);
+    if first.is_before(entries, items) {
+        *items = item_of(alloc, entries, &first)?;
+    }
+    Ok(unfit)
+}
+
+/// Runs the program on these entries, and adds to the items what this kind of walk keeps of its answers. Returns how many entries
+/// don't fit. Returns `NoMemory` if a request for memory is refused.
+pub(crate) fn run_on(
+    alloc: Global,
+    walk: &Walk<'_>,
+    entries: &EntryList,
+    items: &mut EntryList,
+) -> Result<u64, NoMemory>
+    ensures adds { IfOk result (λ unfit. AddsRuns walk.now.kind walk.now.program.now walk.now.arg.now entries.now items.old items.new unfit) }
+    ensures few { IfOk result (λ unfit. unfit ≤ length entries.now) }
+{
+    match walk.kind {
+        WalkKind::Search => keep_first(alloc, entries, walk.program, walk.arg, items),
+        WalkKind::ForEach => add_all(entries, walk.program, walk.arg, items),
+    }
 }

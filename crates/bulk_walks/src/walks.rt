@@ -4,7 +4,7 @@ ghost use Rattle.bin_stripes.specs.Passes.{stripes_of};
 ghost use Rattle.atomic_methods.specs.declared.walk_reply.WalkKind.TheVariants.{Search, ForEach};
 ghost use Rattle.bulk_walks.specs.Walks.{Walks};
 
-use crate::answering::{answer_all, held_in};
+use crate::answering::{answer_all, leave_work, scanned_in};
 use crate::finding::find;
 use crate::merging::merged;
 use crate::team::Team;
@@ -34,12 +34,12 @@ pub fn walk_map<R: Threads + Wait + Sync, G: Gate + Sync>(
     let Team { passes } = team;
     let stripes = map.stripes();
     prove!(stripes <= 64);
-    let (passes, found) = find(rt, alloc, map, passes, gate);
+    let (passes, found) = find(rt, alloc, map, passes, walk, gate);
     let team = Team { passes };
     let Ok(parts) = found else {
         return (team, Err(NoMemory));
     };
-    let apart = held_in(&parts) >= walk.threshold;
+    let apart = scanned_in(&parts) >= walk.threshold && leave_work(walk.kind, &parts);
     let Ok(answers) = answer_all(rt, alloc, walk, parts, apart) else {
         return (team, Err(NoMemory));
     };

@@ -1,5 +1,5 @@
 use Rattle.std.proofs.Common.{◌≡◌, Some, map}
-use Rattle.bulk_walks.specs.declared.answering.Part.{Part}
+use Rattle.bulk_walks.specs.declared.part.Part.{Part}
 use Rattle.bulk_walks.proofs.answering.answers_of.Given as goal
 
 -- the answers of the parts so far

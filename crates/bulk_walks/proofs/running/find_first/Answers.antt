@@ -39,6 +39,6 @@ loop-position-preserved c =
       })
     ]
 
-pub returns : goal.returns
-returns c = finds_first c.args.program.now c.args.arg.now c.args.entries.now _ c.loop-position.position _ c.loop-position.invariant.searched
+pub returns-clause-first : goal.returns-clause-first
+returns-clause-first c = finds_first c.args.program.now c.args.arg.now c.args.entries.now _ c.loop-position.position _ c.loop-position.invariant.searched
     (omega (arith, c.loop-position-test.false, c.loop-position.auto.position-end, c.len-position-end.ensures.value))

@@ -7,13 +7,14 @@ use Rattle.bulk_walks.proofs.walks.walk_map.Goals as goal
 
 pub merged-requires : goal.merged-requires
 merged-requires g c =
-    let f = rw c.in-Ok.is at c.find-passes.ensures.found in
+    let runs = rw c.in-Ok.is at c.find-passes.ensures.found in
+    let f = runs.finds in
     let n = at_most_64 _ c.stripes-stripes.ensures.count in
     let kind = c.args.walk.now.kind in
     let checked = c.args.walk.now.program.now in
     let arg = c.args.walk.now.arg.now in
     let all = c.in-Ok-answer_all.answers.items in
-    let answered = c.in-Ok-answer_all.ensures in
+    let answered = c.in-Ok-answer_all.ensures runs.earlies runs.gathered in
     let replies = answered.replies in
     let are = answered.are_replies in
     let stand = answered.stand in
@@ -27,11 +28,12 @@ merged-requires g c =
 -- memory was refused to the program's runs
 pub returns-in_default-answer_all-clause-walked : goal.returns-in_default-answer_all-clause-walked
 returns-in_default-answer_all-clause-walked g c =
-    let f = rw c.in-Ok.is at c.find-passes.ensures.found in
-    may_all _ f.scans _ _ f.walked
+    let runs = rw c.in-Ok.is at c.find-passes.ensures.found in
+    may_all _ runs.finds.scans _ _ runs.finds.walked
 
 pub returns-clause-walked : goal.returns-clause-walked
 returns-clause-walked g c =
-    let answered = c.in-Ok-answer_all.ensures in
-    walks_of _ _ _ _ c.args.walk.now.program.now c.args.walk.now.arg.now answered.replies (rw c.in-Ok.is at c.find-passes.ensures.found) answered.are_replies
+    let runs = rw c.in-Ok.is at c.find-passes.ensures.found in
+    let answered = c.in-Ok-answer_all.ensures runs.earlies runs.gathered in
+    walks_of _ _ _ _ c.args.walk.now.program.now c.args.walk.now.arg.now answered.replies runs.finds answered.are_replies
     c.args.walk.now.kind c.in-Ok-answer_all.answers.items answered.stand c.merged.result c.merged.ensures

@@ -1,4 +1,4 @@
-use Rattle.std.proofs.Common.{◌≡◌, ℕ, ◌<◌, ◌++◌, ◌∷◌, [], List, length, Bool, true, false, Result, Ok, Err, refl, ap, subst, ◌∙◌, arith, Some}
+use Rattle.std.proofs.Common.{◌≡◌, ℕ, ◌<◌, ◌++◌, ◌∷◌, [], List, length, Bool, true, false, Result, Ok, Err, refl, sym, ap, subst, ◌∙◌, arith, Some}
 use Rattle.bpf_model.specs.declared.input.InputPart.{InputPart}
 use Rattle.bpf_model.specs.declared.input.Answer.TheVariants.{Nothing}
 use Rattle.bpf_model.specs.Fits.{input_of}
@@ -7,13 +7,17 @@ use Rattle.bins.specs.Replacements.{ComesTo}
 use Rattle.atomic_methods.specs.declared.walk_reply.WalkKind.TheVariants.{ForEach}
 use Rattle.atomic_methods.specs.Plans.{outcome_by}
 use Rattle.atomic_methods.proofs.WalkLemmas.{walked_none, walked_given, walked_none_given}
+use Rattle.std.proofs.lemmas.List.{append-nil, append_assoc}
 use Rattle.bulk_walks.proofs.SearchLemmas.{runs_on_all}
-use Rattle.bulk_walks.proofs.running.run_on_all.Goals as goal
-use Rattle.bulk_walks.proofs.running.run_on_all.Goals.{in-Ok-true+in_ok-keep-in-Ok-true, in-Ok-false, in-Err}
+use Rattle.bulk_walks.proofs.GatherLemmas.{adds_all}
+use Rattle.bulk_walks.proofs.running.add_all.Goals as goal
+use Rattle.bulk_walks.proofs.running.add_all.Goals.{in-Ok-true+in_ok-keep-in-Ok-true, in-Ok-false, in-Err}
 
 pub loop-position-init : goal.loop-position-init
 loop-position-init c = record {
-  walked = walked_none ForEach c.args.program.now c.args.arg.now c.args.entries.now _ c.new-items.ensures;
+  more = [];
+  walked = walked_none ForEach c.args.program.now c.args.arg.now c.args.entries.now [] refl;
+  added = sym (append-nil c.args.items.now);
   bounded = omega arith;
 }
 
@@ -32,23 +36,31 @@ loop-position-preserved c =
     let comes = λ (r : Result Bool InputPart) (is : c.answer.result ≡ r). subst (λ (r : Result Bool InputPart). ComesTo checked (input_of entry.0 (Some entry.1) arg) (outcome_by r c.answer.new.bench.answer)) is told in
     elim c.match-answer.branch [
       | in-Ok-true+in_ok-keep-in-Ok-true w ↦ rw (w.items-is, w.unfit-is) (record {
-        walked = walked_given ForEach checked arg es _ position _ before.walked lt entry c.get.ensures.entry c.answer.new.bench.answer _
-            (comes (Ok true) (w.in-Ok-true.is ∙ ap Ok w.in-Ok-true.field-0-test))
-            (λ found is. w.in_ok-keep-in-Ok-true.ensures.ok ∙ ap (λ (xs : List Entry). xs ++ (entry.0, w.as_slice.result.now) ∷ []) is ∙ ap (λ (answer : List ℕ). found ++ (entry.0, answer) ∷ []) w.as_slice.ensures.value);
+        more = before.more ++ (entry.0, c.answer.new.bench.answer) ∷ [];
+        walked = walked_given ForEach checked arg es before.more position _ before.walked lt entry c.get.ensures.entry c.answer.new.bench.answer _
+            (comes (Ok true) (w.in-Ok-true.is ∙ ap Ok w.in-Ok-true.field-0-test)) (λ found is. ap (λ (xs : List Entry). xs ++ (entry.0, c.answer.new.bench.answer) ∷ []) is);
+        added = w.in_ok-keep-in-Ok-true.ensures.ok ∙ ap (λ (answer : List ℕ). c.loop-position.items ++ (entry.0, answer) ∷ []) w.as_slice.ensures.value
+            ∙ ap (λ (xs : List Entry). xs ++ (entry.0, c.answer.new.bench.answer) ∷ []) before.added ∙ append_assoc c.args.items.now before.more ((entry.0, c.answer.new.bench.answer) ∷ []);
         bounded = omega (arith, before.bounded);
       })
       | in-Ok-false w ↦ rw (w.items-is, w.unfit-is) (record {
+        more = before.more;
+        added = before.added;
         walked = walked_none_given ForEach checked arg es _ position _ before.walked lt entry c.get.ensures.entry (Ok Nothing) false _
             (comes (Ok false) (w.in-Ok-false.is ∙ ap Ok w.in-Ok-false.field-0-test)) (λ key. refl) refl (omega arith);
         bounded = omega (arith, before.bounded);
       })
       | in-Err w ↦ rw (w.items-is, w.unfit-is) (record {
+        more = before.more;
+        added = before.added;
         walked = walked_none_given ForEach checked arg es _ position _ before.walked lt entry c.get.ensures.entry (Err w.in-Err.field-0) true _
             (comes (Err w.in-Err.field-0) w.in-Err.is) (λ key. refl) refl (omega arith);
         bounded = omega (arith, before.bounded);
       })
     ]
 
-pub returns : goal.returns
-returns c = runs_on_all c.args.program.now c.args.arg.now c.args.entries.now _ c.loop-position.position _ c.loop-position.invariant.walked
-    (omega (arith, c.loop-position-test.false, c.loop-position.auto.position-end, c.len-count.ensures.value))
+pub returns-clause-adds : goal.returns-clause-adds
+returns-clause-adds c =
+    let end = c.loop-position.invariant in
+    adds_all c.args.program.now c.args.arg.now c.args.entries.now end.more c.args.items.now c.loop-position.items _
+    (runs_on_all c.args.program.now c.args.arg.now c.args.entries.now end.more c.loop-position.position _ end.walked (omega (arith, c.loop-position-test.false, c.loop-position.auto.position-end, c.len-count.ensures.value))) end.added

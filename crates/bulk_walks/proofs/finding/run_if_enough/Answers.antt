@@ -1,0 +1,15 @@
+use Rattle.std.proofs.Common.{◌++◌, List, [], length, sym, ap, ◌∙◌, arith}
+use Rattle.std.proofs.lemmas.List.{append-nil}
+use Rattle.bins.specs.Table.{Entry}
+use Rattle.bulk_walks.proofs.finding.run_if_enough.Goals as goal
+
+-- none waits any more
+pub returns : goal.returns
+returns c =
+    let none = c.new.ensures in
+    record {
+      runs = λ early had.
+          let later = early ++ c.args.waiting.now in
+          (later, (c.in_ok-add.ensures.gathered early had, sym (ap (λ (es : List Entry). later ++ es) none ∙ append-nil later)));
+      many = let n = ap (λ (es : List Entry). length es) none in omega (arith, n, c.in_ok-add.ensures.scanned);
+    }
