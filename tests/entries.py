@@ -1,7 +1,7 @@
 #!/usr/bin/env python3
 """Bounds what entries cost the built programs, without timing anything. Of mapd: how much its resident memory grows with twice as many
-entries, at six lengths; what is left of it after all are removed, or after long values became short; and how many entries fit in a bounded
-address space. Of bpfmap, if there is a valgrind: how many instructions a key takes that isn't random, beside a random one as long, also
+entries, at six lengths; what is left of it after all are removed, or after long values became short; how many entries fit in a bounded
+address space; and how much walks that answer nothing need. Of bpfmap, if there is a valgrind: how many instructions a key takes that isn't random, beside a random one as long, also
 while keys of one hash are there, and after they went.
 
 By hand, after `rt run` in crates/bpfmap and crates/mapd: python3 tests/entries.py. Other programs are tried by --bpfmap and --mapd."""
@@ -30,9 +30,13 @@ SHAPES = [(8, 8, 200_000, 80), (16, 24, 150_000, 112), (16, 100, 100_000, 200), 
           (64, 1024, 20_000, 1_300)]
 # At least this many entries of 8 and 8 bytes fit in a GiB of address space, and of this many some are refused.
 ROOMY, CROWDED, GIBIBYTE_KIB = 600_000, 1_400_000, 1 << 20
+# Walks over this many entries that answer nothing need at most so many MiB at once; the entries take some 35.
+WALKED, WALK_MIB = 200_000, 8
+ANSWERS_NOTHING = bytes.fromhex("b7000000ffffffff 9500000000000000")
 # How many keys of each kind are put and read.
 KEYS = 20_000
 MEBIBYTE = 1 << 20
+SEARCH, FOR_EACH = 0x20, 0x21
 NO_MEMORY = wire.frame(wire.refused(9))
 # Pairs of bytes of one hash.
 PAIRS = (b"Aa", b"BB")
@@ -76,10 +80,19 @@ class Session:
         """Removes entries."""
         self.ask(wire.remove(scattered(number, key)) for number in numbers)
 
-    def resident(self) -> int:
-        """The bytes of memory that the server has."""
+    def resident(self, line: str = "VmRSS") -> int:
+        """The bytes of memory that the server has, or that this line of its status tells."""
         status = Path(f"/proc/{self.server.process.pid}/status").read_text()
-        return 1024 * int(re.search(r"VmRSS:\s+(\d+) kB", status)[1])
+        return 1024 * int(re.search(line + r":\s+(\d+) kB", status)[1])
+
+    def more_at_once(self, walks: Iterable[bytes]) -> int:
+        """Makes walks, and returns how many bytes more than before the server had while it made them, at the most."""
+        before = self.resident()
+        Path(f"/proc/{self.server.process.pid}/clear_refs").write_text("5")
+        for walk in walks:
+            if self.client.walk(walk) != [wire.end(WALKED, 0, 0)]:
+                raise wire.Wrong("a walk that answers nothing answered something else")
+        return self.resident("VmHWM") - before
 
 
 def most(what: str, found: float, bound: float) -> None:
@@ -120,6 +133,16 @@ def try_bounded(program: Path) -> None:
         most(f"of {CROWDED} entries refused in a GiB of address space", refused, CROWDED - ROOMY)
         if refused == 0:
             raise wire.Wrong("no entry was refused, so nothing is shown")
+
+
+def try_walks(program: Path) -> None:
+    """Walks that answer nothing, and run their program in the workers, have copies of a few entries at a time."""
+    with Session(program) as session:
+        session.put(range(WALKED), 16, 100)
+        if session.client.ask(wire.register((64, 256, 0, 0), ANSWERS_NOTHING)) != b"\x81" + wire.number_field(0):
+            raise wire.Wrong("the program that answers nothing is refused")
+        took = session.more_at_once([wire.walk(SEARCH, 0, None), wire.walk(FOR_EACH, 0, None)])
+        most(f"MiB more at once for walks over {WALKED} entries that answer nothing", took / MEBIBYTE, WALK_MIB)
 
 
 def instructions(program: Path, bodies: Iterable[bytes]) -> int:
@@ -189,6 +212,7 @@ def main() -> None:
             try_shape(asked.mapd, *shape)
         try_shorter(asked.mapd)
         try_bounded(asked.mapd)
+        try_walks(asked.mapd)
         if shutil.which("valgrind"):
             try_keys(asked.bpfmap)
         else:
