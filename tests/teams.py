@@ -66,7 +66,8 @@ def try_team(program: Path, team: int) -> None:
     with wire.started(program, "--workers", "1", "--team", str(team)) as server, wire.opened(server.address, 2) as client:
         number = int.from_bytes(client.ask(wire.register(SIZES, LONG))[1:], "big")
         put_all(client)
-        for threshold, wanted in ((1, team), (ENTRIES + 1, 1)):
+        # from the first entry on, once a worker has found that many itself, or once all have
+        for threshold, wanted in ((1, team), (ENTRIES // 8, team), (ENTRIES // 2, team), (ENTRIES + 1, 1)):
             found = threads_that_work(server, client, for_each(number, threshold))
             wire.same(f"how many of a team of {team} walk over {ENTRIES} entries with threshold {threshold}", found, wanted)
             print(f"teams: with a team of {team} and threshold {threshold}, {found} walk over {ENTRIES} entries")
