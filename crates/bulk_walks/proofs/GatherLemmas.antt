@@ -1,7 +1,5 @@
 -- What a worker has gathered, if the program runs on more entries.
-use Rattle.std.proofs.Common.{◌≡◌, ℕ, suc, ◌+◌, ◌<◌, ◌≤◌, List, [], ◌∷◌, ◌++◌, length, length-append, Option, Some, Bool, true, false, cond, Ok, Err, refl, sym, ap, subst, ◌∙◌, arith, sum_by}
-use Rattle.std.specs.List.{count_by}
-use Rattle.std.proofs.lemmas.List.{append-nil, append_assoc}
+use Rattle.std.proofs.Common.{◌≡◌, ℕ, ◌+◌, List, [], ◌∷◌, ◌++◌, length, length-append, Option, cond, Ok, Err, refl, sym, ap, subst, ◌∙◌, arith, sum_by}
 use Rattle.std.proofs.lemmas.List.Sums.{sum_by-append}
 use Rattle.bpf_model.specs.declared.input.Answer.TheVariants.{Nothing, Bytes}
 use Rattle.verifier.specs.Checked.{Checked}
@@ -12,7 +10,7 @@ use Rattle.atomic_methods.specs.declared.walk_reply.WalkKind.{WalkKind}
 use Rattle.atomic_methods.specs.declared.walk_reply.WalkKind.TheVariants.{Search, ForEach}
 use Rattle.atomic_methods.specs.Replies.{present}
 use Rattle.bulk_walks.specs.declared.part.Gathered.{Gathered}
-use Rattle.bulk_walks.specs.Kept.{IsFirst, KeepsSome, RunsOnAll, AddsRuns, FindsFirst, IsGathered}
+use Rattle.bulk_walks.specs.Kept.{IsFirst, RunsOnAll, AddsRuns, FindsFirst, IsGathered}
 use Rattle.bulk_walks.specs.Merges.{comes_first}
 use Rattle.bulk_walks.proofs.FirstLemmas.{first_same, first_of_both}
 

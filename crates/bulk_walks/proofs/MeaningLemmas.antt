@@ -1,5 +1,5 @@
 -- A safe program has an answer to each input that fits, whether it runs or not.
-use Rattle.std.proofs.Common.{◌≡◌, ℕ, zero, suc, ◌+◌, ◌≤◌, List, length, inl, inr, refl, ap, ◌∙◌, arith}
+use Rattle.std.proofs.Common.{ℕ, zero, suc, ◌+◌, ◌≤◌, List, length, inl, inr, refl, ap, ◌∙◌, arith}
 use Rattle.std.specs.Prelude.{option_and_then}
 use Rattle.bpf_model.specs.declared.input.Input.{Input}
 use Rattle.bpf_model.specs.declared.input.Sizes.{Sizes}

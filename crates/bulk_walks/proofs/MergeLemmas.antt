@@ -1,5 +1,5 @@
 -- The merge of lists in key order, an entry at a time.
-use Rattle.std.proofs.Common.{◌≡◌, ◌≢◌, ℕ, zero, suc, ◌+◌, ◌^◌, ◌<◌, ◌≤◌, List, [], ◌∷◌, ◌++◌, map, cond, true, false, All, get_or, set, append_assoc, length, length-set, inl, inr, take, sum_by, refl, sym, ap, ◌∙◌, subst, arith, T}
+use Rattle.std.proofs.Common.{◌≡◌, ◌≢◌, ℕ, ◌+◌, ◌^◌, ◌<◌, ◌≤◌, List, [], ◌∷◌, ◌++◌, map, cond, true, false, All, get_or, set, append_assoc, length, length-set, inl, inr, take, sum_by, refl, sym, ap, ◌∙◌, subst, arith, T}
 use Rattle.std.specs.declared.cmp.Ordering.TheVariants.{Less, Equal, Greater}
 use Rattle.std.specs.Ordering.{is_eq, is_lt, ordering_reverse}
 use Rattle.std.specs.Cmp.{IsStrictWeakOrder}
@@ -10,8 +10,8 @@ use Rattle.std.proofs.lemmas.Bool.{false≢true, cases_eq}
 use Rattle.std.proofs.lemmas.List.{get_or-set_same, get_or-set_other, get_or_default, get_or-map, set-get_or, map-set, length-map, append-nil, take_all}
 use Rattle.std.proofs.Math.Seq.{take-append_seam}
 use Rattle.std.proofs.lemmas.List.MinMax.{ranks_by}
-use Rattle.std.proofs.lemmas.List.Elements.{All-from_get_or, All-head, All-tail}
-use Rattle.std.proofs.lemmas.List.Sums.{sum_by-cons, sum_by-le, sum_by-set, get_or-le-sum_by}
+use Rattle.std.proofs.lemmas.List.Elements.{All-from_get_or}
+use Rattle.std.proofs.lemmas.List.Sums.{sum_by-cons, sum_by-le, sum_by-set}
 use Rattle.bins.specs.Entries.{entry_of}
 use Rattle.bins.specs.Merged.{entry_at}
 use Rattle.bins.specs.Fronts.{AreBytes}
@@ -20,7 +20,7 @@ use Rattle.bins.specs.Table.{Entry, by_bytes}
 use Rattle.bulk_walks.specs.declared.answers.Answers.{Answers}
 use Rattle.bulk_walks.specs.Kept.{kept_of, kept_in, lists_of_all}
 use Rattle.bulk_walks.specs.Merges.{Remains, HasAll, comes_first, lead_of, lefts_of, left_of, lists_of, whole_of, TakesFirst}
-use Rattle.bins.proofs.SameEntries.{one_if, at_key, first, second, above, at_entry, at_itself, none_above, at_most_key, tied_by_one, same_entries}
+use Rattle.bins.proofs.SameEntries.{one_if, at_key, first, second, above, at_entry, at_itself, none_above, at_most_key, tied_by_one}
 use Rattle.bulk_walks.proofs.Sums.{sum_of_ones}
 use Rattle.bulk_walks.proofs.TeamLemmas.{head_of}
 

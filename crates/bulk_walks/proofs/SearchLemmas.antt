@@ -1,5 +1,5 @@
 -- A search over entries: one more entry.
-use Rattle.std.proofs.Common.{◌≡◌, ℕ, ◌+◌, ◌<◌, List, [], ◌∷◌, ◌++◌, length, Option, Some, Bool, true, false, cond, Result, Ok, Err, refl, sym, ap, subst, arith, sum_by}
+use Rattle.std.proofs.Common.{◌≡◌, ℕ, ◌+◌, ◌<◌, List, [], ◌∷◌, ◌++◌, length, Option, Some, Bool, true, false, cond, Ok, Err, refl, sym, ap, subst, arith, sum_by}
 use Rattle.bpf_model.specs.declared.input.Answer.TheVariants.{Nothing, Bytes}
 use Rattle.bpf_model.specs.declared.input.InputPart.{InputPart}
 use Rattle.bpf_model.specs.Fits.{input_of}

@@ -1,5 +1,5 @@
 -- The workers' answers and the replies that they stand for.
-use Rattle.std.proofs.Common.{◌≡◌, ℕ, zero, suc, ◌+◌, ◌<◌, ◌≤◌, List, [], ◌∷◌, ◌++◌, cond, false, All, get_or, length, map, sum_by, Option, Some, None, IfSome, drop, refl, sym, ap, ◌∙◌, subst, arith, add-one, T}
+use Rattle.std.proofs.Common.{◌≡◌, ℕ, zero, suc, ◌+◌, ◌<◌, ◌≤◌, List, [], ◌∷◌, ◌++◌, cond, false, All, get_or, length, map, sum_by, Option, Some, None, IfSome, drop, refl, sym, ap, subst, arith, add-one, T}
 use Rattle.std.specs.Ordering.{is_lt}
 use Rattle.std.specs.FinMap.{is_sorted}
 use Rattle.std.specs.List.Sorted.{IsSortedBy}

@@ -1,5 +1,5 @@
 -- From the replies to each worker's finds to the reply of the walk.
-use Rattle.std.proofs.Common.{◌≡◌, ℕ, zero, suc, ◌^◌, ◌<◌, ◌≤◌, List, [], ◌∷◌, cond, false, All, get_or, length, sum_by, Option, Result, Ok, Err, IfOk, refl, sym, ap, ◌∙◌, subst, arith, add-one, T}
+use Rattle.std.proofs.Common.{◌≡◌, ℕ, zero, suc, ◌^◌, ◌<◌, ◌≤◌, List, [], ◌∷◌, cond, All, get_or, length, sum_by, Option, Result, Ok, Err, IfOk, refl, sym, ap, ◌∙◌, arith, T}
 use Rattle.std.specs.FinMap.{is_sorted}
 use Rattle.std.proofs.lemmas.List.{length-map}
 use Rattle.std.proofs.lemmas.List.Sums.{sum_by-le-sum_by}

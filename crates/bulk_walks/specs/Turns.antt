@@ -1,8 +1,7 @@
 -- The answer of each worker of a walk.
-use Rattle.std.specs.Prelude.{◌≡◌, ◌<◌, ◌≤◌, ◌^◌, ◌+◌, ◌%◌, ◌==◌, if◌then◌else◌, ℕ, ⊤, List, [], ◌∷◌, Option, Result, Ok, Err, IfOk, length, map, sum_by, slice_index_or}
+use Rattle.std.specs.Prelude.{◌≡◌, ◌<◌, ◌≤◌, ◌^◌, ◌+◌, ◌%◌, ◌==◌, if◌then◌else◌, ℕ, ⊤, List, [], ◌∷◌, Option, length, map, sum_by, slice_index_or}
 use Rattle.stripe_rule.specs.declared.view.View.{View}
 use Rattle.verifier.specs.Checked.{Checked}
-use Rattle.bpf_model.specs.declared.memory.NoMemory.{NoMemory}
 use Rattle.bins.specs.declared.counts.Counts.{Counts}
 use Rattle.bins.specs.Table.{Entry}
 use Rattle.bin_stripes.specs.declared.ghost_action.GhostAction.{GhostAction}
@@ -11,7 +10,7 @@ use Rattle.bin_stripes.specs.Passes.{PassState}
 use Rattle.atomic_methods.specs.declared.walk_reply.WalkKind.TheVariants.{ForEach}
 use Rattle.atomic_methods.specs.declared.walk_reply.WalkReply.{WalkReply}
 use Rattle.atomic_methods.specs.Replies.{IsReply}
-use Rattle.bulk_walks.specs.Walks.{IsTurn, Walked, AllWalked, Each, IsScan, MayScan, IsReplaced, sum_below}
+use Rattle.bulk_walks.specs.Walks.{IsTurn, Walked, AllWalked, Each, IsScan, IsReplaced, sum_below}
 
 -- the sum of f over the stripes below n whose turn is this worker's
 abbrev pub turn_sum : ℕ → ℕ → (ℕ → ℕ) → ℕ → ℕ

@@ -1,4 +1,4 @@
-use Rattle.std.proofs.Common.{◌++◌, List, [], length, sym, ap, ◌∙◌, arith}
+use Rattle.std.proofs.Common.{◌++◌, List, length, sym, ap, ◌∙◌, arith}
 use Rattle.std.proofs.lemmas.List.{append-nil}
 use Rattle.bins.specs.Table.{Entry}
 use Rattle.bulk_walks.proofs.finding.run_if_enough.Goals as goal

@@ -1,5 +1,4 @@
-use Rattle.std.proofs.Common.{List, sym, ap, ◌∙◌, cond}
-use Rattle.bins.specs.Table.{Entry}
+use Rattle.std.proofs.Common.{sym, ap, ◌∙◌, cond}
 use Rattle.bulk_walks.specs.Kept.{item_at}
 use Rattle.bulk_walks.proofs.GatherLemmas.{adds_first}
 use Rattle.bulk_walks.proofs.running.keep_first.Goals as goal
