@@ -8,6 +8,7 @@ By hand, after `rt run` in crates/bpfmap and crates/mapd: python3 tests/entries.
 from __future__ import annotations
 
 import argparse
+import contextlib
 import itertools
 import random
 import re
@@ -88,7 +89,8 @@ class Session:
     def more_at_once(self, walks: Iterable[bytes]) -> int:
         """Makes walks, and returns how many bytes more than before the server had while it made them, at the most."""
         before = self.resident()
-        Path(f"/proc/{self.server.process.pid}/clear_refs").write_text("5")
+        with contextlib.suppress(OSError):  # else the most so far counts, which is what there is now
+            Path(f"/proc/{self.server.process.pid}/clear_refs").write_text("5")
         for walk in walks:
             if self.client.walk(walk) != [wire.end(WALKED, 0, 0)]:
                 raise wire.Wrong("a walk that answers nothing answered something else")
