@@ -1,8 +1,8 @@
 #!/usr/bin/env python3
 """Bounds what entries cost the built programs, without timing anything. Of mapd: how much its resident memory grows with twice as many
 entries, at six lengths; what is left of it after all are removed, or after long values became short; how many entries fit in a bounded
-address space; and how much walks that answer nothing need. Of bpfmap, if there is a valgrind: how many instructions a key takes that isn't random, beside a random one as long, also
-while keys of one hash are there, and after they went.
+address space; and how much walks that answer nothing need. Of bpfmap, if there is a valgrind: how many instructions a key takes that isn't
+random, beside a random one as long, also while keys of one hash are there, and after they went.
 
 By hand, after `rt run` in crates/bpfmap and crates/mapd: python3 tests/entries.py. Other programs are tried by --bpfmap and --mapd."""
 from __future__ import annotations
@@ -31,7 +31,7 @@ SHAPES = [(8, 8, 200_000, 80), (16, 24, 150_000, 112), (16, 100, 100_000, 200), 
           (64, 1024, 20_000, 1_300)]
 # At least this many entries of 8 and 8 bytes fit in a GiB of address space, and of this many some are refused.
 ROOMY, CROWDED, GIBIBYTE_KIB = 600_000, 1_400_000, 1 << 20
-# Walks over this many entries that answer nothing need at most so many MiB at once; the entries take some 35.
+# Walks over this many entries that answer nothing need at most this many MiB at once; the entries take some 35.
 WALKED, WALK_MIB = 200_000, 8
 ANSWERS_NOTHING = bytes.fromhex("b7000000ffffffff 9500000000000000")
 # How many keys of each kind are put and read.

@@ -41,7 +41,7 @@ abbrev pub Keeps : WalkKind → List Entry → List Entry → List ℕ → Type 
 Keeps Search all items order = IsFirst (λ weight. sum_by weight all) items × (order ≡ [])
 Keeps ForEach all items order = WeighSame (entries_at items order) all × IsSortedBy comes_before (entries_at items order)
 
--- before they are put in order
+-- what it keeps before its items are put in order
 abbrev pub KeepsSome : WalkKind → List Entry → List Entry → Type 0
 KeepsSome Search all items = IsFirst (λ weight. sum_by weight all) items
 KeepsSome ForEach all items = items ≡ all

@@ -15,7 +15,7 @@ use std::sync::Wait;
 use std::thread::Threads;
 use workers::work;
 
-/// Runs the program on the waiting entries, if so many were found that it may run in the workers. Else they go on waiting.
+/// Runs the program on the waiting entries, if the worker has found at least `threshold` so far. Else they go on waiting.
 fn run_if_enough(
     alloc: Global,
     walk: &Walk<'_>,

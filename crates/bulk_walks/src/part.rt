@@ -1,4 +1,4 @@
-//! What a worker has of its walk.
+//! What a worker has of its walk. `gathering.rt` says how it grows.
 ghost use Rattle.std.specs.Prelude.{◌≡◌, ◌+◌, ◌<◌, ◌≤◌, ◌^◌, [], length};
 
 use crate::answers::Answers;
