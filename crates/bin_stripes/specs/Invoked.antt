@@ -5,7 +5,7 @@ use Rattle.stripe_rule.specs.Gains.{Adds, seen_of}
 use Rattle.verifier.specs.Checked.{Checked}
 use Rattle.bins.specs.declared.counts.Counts.{Counts}
 use Rattle.bins.specs.Table.{Entry, Table, by_bytes}
-use Rattle.bins.specs.Copies.{WeighSame}
+use Rattle.bins.specs.Copies.{AreCopies, WeighSame}
 use Rattle.bins.specs.Replacements.{Outcome, is_given, is_unfit}
 use Rattle.atomic_methods.specs.declared.reply.Reply.{Reply}
 use Rattle.atomic_methods.specs.Hashes.{stripe_of}
@@ -60,6 +60,24 @@ pub record CopiesStripe (old : PassState) (k : ℕ) (before after : List Entry) 
   pub copies : List Entry
   pub same : WeighSame copies entries
   pub added : after ≡ before ++ copies
+
+-- a visitor saw the entries of a table, in any order: what it was before, and what it is after
+pub record Shown {V : Type 0} (Visits : V → List Entry → V → Type 0) (table : Table) (before after : V) : Type 0 where
+  pub entries : List Entry
+  pub are : AreCopies table entries
+  pub visits : Visits before entries after
+
+-- the pass made one scan of the stripe k, and a visitor saw the entries that it found, in any order
+pub record VisitsStripe {V : Type 0} (Visits : V → List Entry → V → Type 0) (old : PassState) (k : ℕ) (before after : V) (new : PassState)
+    : Type 0 where
+  pub entries : List Entry
+  pub scans : Scans old k entries new
+  pub are : AreOf (stripes_of old.map) k entries
+  -- as for copies
+  pub bounded : length entries < 2 ^ 57
+  pub shown : List Entry
+  pub same : WeighSame shown entries
+  pub visits : Visits before shown after
 
 -- one replacement for each entry, in their order, by the program's outcome at its key; with these counts of each kind
 pub record AreReplacements (program : Checked) (arg : Option (List ℕ)) (entries : List Entry) (actions : List Action)

@@ -9,13 +9,14 @@ ghost use Rattle.stripe_rule.specs.Gains.{seen_of};
 ghost use Rattle.timed_bins.specs.Deadlines.{timed_table};
 ghost use Rattle.bin_stripes.specs.Actions.{scanned};
 ghost use Rattle.bin_stripes.specs.Histories.{Leaves};
-ghost use Rattle.bin_stripes.specs.Invoked.{AreReplacements};
+ghost use Rattle.bin_stripes.specs.Invoked.{AreReplacements, Shown};
 ghost use Rattle.bin_stripes.specs.Releasing.{Lets};
 ghost use Rattle.bin_stripes.specs.Holding.{IsLaid, SeatHolds};
 ghost use Rattle.bin_stripes.specs.Deeds.{CallsBy, RefusesBy, ExpiresBy, LetsAt};
 
 use crate::gate::{Gate, Place};
 use crate::steps::{PassSeat, Shows, Stripes, let_go};
+use crate::visitor::Visitor;
 use atomic_methods::{HashedCall, Workspace};
 use bins::{Counts, EntryList};
 use bpf_model::{Key, NoMemory, Value};
@@ -236,6 +237,30 @@ pub(crate) fn make_copies<B: NotedBins + Drop>(
             Err(fault)
         }
     }
+}
+
+/// Shows the stripe's entries to the visitor where they lie, in any order. Takes no memory, unless the visitor does.
+pub(crate) fn make_visit<B: NotedBins + Drop, V: Visitor>(
+    table: &Stripes<B>,
+    seat: &mut PassSeat<B>,
+    stripe: usize,
+    visitor: &mut V,
+)
+    requires table { IsLaid table.now.table_id table.now.key × (seat.old.table_id ≡ table.now.table_id) }
+    requires stripe { stripe < table.now.table_id.slots }
+    requires held { SeatHolds B.table B.noted table.now.table_id.slots stripe seat.old.me }
+    requires may { V.may_visit visitor.old }
+    ensures same { (seat.new.table_id ≡ seat.old.table_id) × (seat.new.id ≡ seat.old.id) }
+    ensures made { (there : Table) × (Leaves table.now.table_id.slots stripe (seen_of seat.old.me.0 stripe) there
+        × Lets (λ actions. actions ≡ scanned (map.entries there) ∷ []) table.now.table_id.slots stripe seat.old.me seat.new.me
+        × Shown V.visits there visitor.old visitor.new × (length (map.entries there) < 2 ^ 57)) }
+{
+    let Some(bins) = seat.slot_mut(table, stripe) else {
+        unreachable!()
+    };
+    visitor.visit(&bins.view());
+    let found = Snapshot::of(&*bins);
+    let_go::<B, _, Scanning>(table, seat, stripe, &found);
 }
 
 /// Returns copies of the stripe's entries, in key order. Sorts them before the stripe is let go, since that takes memory.

@@ -3,7 +3,7 @@ ghost use Rattle.std.specs.Prelude.{◌≡◌, ◌<◌, ◌^◌, [], length, opt
 ghost use Rattle.atomic_methods.specs.Hashes.{stripe_of, IsStripeCount};
 ghost use Rattle.atomic_methods.specs.Invocations.{invocation_of};
 ghost use Rattle.atomic_methods.specs.Plans.{reply_by};
-ghost use Rattle.bin_stripes.specs.Invoked.{Makes, Calls, RefusesCall, Scans, CopiesStripe, CountsStripe, AreOf, ReplacesInStripe, stripe_for};
+ghost use Rattle.bin_stripes.specs.Invoked.{Makes, Calls, RefusesCall, Scans, CopiesStripe, VisitsStripe, CountsStripe, AreOf, ReplacesInStripe, stripe_for};
 ghost use Rattle.bin_stripes.specs.Timed.{CallsAt, RefusesAt, ExpiresOne, PassCalls, PassIsRefused};
 ghost use Rattle.bin_stripes.specs.Passes.{ServesSameMap, stripes_of};
 
@@ -13,6 +13,7 @@ use crate::gate::Gate;
 use crate::ghost_action::GhostAction;
 use crate::held::{
     CallAt, Replacer, make_call, make_copies, make_count, make_expiry, make_replacements, make_scan,
+    make_visit,
 };
 use crate::holds::Holds;
 use crate::pass::Pass;
@@ -20,6 +21,7 @@ use crate::rule::{Shape, Striping};
 use crate::seats::{try_call, try_replace, try_scan};
 use crate::steps::take_stripe;
 use crate::turns::{Turns, Waits};
+use crate::visitor::Visitor;
 use atomic_methods::{Call, HashedCall, Reply, ReplyKind};
 use atomic_table::Table;
 use bins::{Counts, EntryList, HashedBins};
@@ -307,6 +309,31 @@ impl StripedMap {
         self.holds.ended(begun);
         pass.known.put(seat);
         answer
+    }
+
+    /// Shows the entries of one stripe, which is below `stripes()`, to a visitor where they lie, in any order: a scan that copies
+    /// nothing. The stripe is held meanwhile. Takes no memory, unless the visitor does. Waits until the stripe is free.
+    pub fn visit_stripe<R: Wait, V: Visitor>(
+        &self,
+        rt: &R,
+        pass: &mut Pass,
+        stripe: u64,
+        visitor: &mut V,
+    )
+        requires map { pass.old.map ≡ self.now }
+        requires stripe { stripe < stripes_of self.now }
+        requires may { V.may_visit visitor.old }
+        ensures same { ServesSameMap pass.old pass.new }
+        ensures visits { VisitsStripe V.visits pass.old stripe visitor.old visitor.new pass.new }
+    {
+        let slot = stripe as usize;
+        let table = &self.table.shared;
+        let mut seat = pass.known.take();
+        take_stripe(rt, table, &mut seat, slot, &self.turns);
+        let begun = micros();
+        make_visit(table, &mut seat, slot, visitor);
+        self.holds.ended(begun);
+        pass.known.put(seat);
     }
 
     /// Scans as `scan_stripe` does if the stripe is free; else returns `Busy`. Never waits.

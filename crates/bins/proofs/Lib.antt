@@ -2,7 +2,7 @@ pub mod SearchLemmas
 pub mod MapEdits
 pub mod DistinctEntries
 pub mod PairedEntries
-pub mod AddedCopies
+pub mod CopyLemmas
 pub mod OrderedEntries
 pub mod GapLemmas
 pub mod RowBytes

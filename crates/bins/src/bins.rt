@@ -1,11 +1,12 @@
 //! A table's storage: a finite map from keys to values, however it is kept.
 ghost use Rattle.std.specs.Prelude.{◌≡◌, ◌<◌, ◌≤◌, ◌^◌, None, length, IfOk, IfSome, OnOk, OnErr, option_copied};
 ghost use Rattle.std.specs.FinMap as map;
-ghost use Rattle.bins.specs.Copies.{AddsCopies};
+ghost use Rattle.bins.specs.Copies.{AddsCopies, AreCopies};
 ghost use Rattle.bins.specs.Replacements.{ReplacesEach};
 
 use crate::counts::Counts;
 use crate::entry_list::EntryList;
+use crate::entry_view::EntryView;
 use crate::hashes::{HashedKey, Seed};
 use crate::opening::Opening;
 use crate::sorted_entries::sorted_copies;
@@ -79,13 +80,21 @@ pub trait Bins {
         Some(value)
     }
 
+    /// Lends all entries where they lie, in any order. Takes no memory.
+    fn view(&self) -> EntryView<'_>
+        ensures are { AreCopies (table self.now) result }
+        // As for `count`.
+        ensures bounded { length (map.entries (table self.now)) < 2 ^ 57 };
+
     /// Adds copies of all entries to the list, in any order. Asks for memory if the list has no room for them. Returns
     /// `NoMemory` if that is refused; the list is then unchanged.
     fn copy_into(&self, list: &mut EntryList) -> Result<(), NoMemory>
         ensures ok { OnOk result (AddsCopies (table self.now) list.old list.new) }
         ensures err { OnErr result (list.new ≡ list.old) }
-        // As for `count`.
-        ensures bounded { length (map.entries (table self.now)) < 2 ^ 57 };
+        ensures bounded { length (map.entries (table self.now)) < 2 ^ 57 }
+    {
+        list.add_all(&self.view())
+    }
 
     /// Returns copies of all entries, in key order. Returns `NoMemory` if a request for memory is refused.
     fn entries(&self, alloc: Global) -> Result<Vec<(Key, Value)>, NoMemory>

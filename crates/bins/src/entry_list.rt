@@ -7,6 +7,7 @@ ghost use Rattle.bins.specs.Entries.{entries_at, entries_in, entry_of};
 ghost use Rattle.bins.specs.Fronts.{front, AreBytes};
 ghost use Rattle.bins.specs.Table.{Entry, by_bytes};
 
+use crate::entry_view::{EntryView, Keeper};
 use crate::hashes::front_of;
 use crate::rows::Rows;
 use bpf_model::limits::{KEY_BYTES, VALUE_BYTES};
@@ -121,12 +122,31 @@ impl EntryList {
         Ok(())
     }
 
+    /// Views the entries. Takes no memory.
+    #[inline(always)]
+    pub fn view(&self) -> EntryView<'_>
+        ensures { result ≡ self.now }
+    {
+        EntryView::of_rows(&self.rows)
+    }
+
+    /// Adds copies of these entries after the others. Asks for memory if there is no room for them. Returns `NoMemory` if that
+    /// is refused; the entries are then unchanged.
+    pub fn add_all(&mut self, entries: &EntryView<'_>) -> Result<(), NoMemory>
+        ensures ok { OnOk result (self.new ≡ self.old ++ entries.now) }
+        ensures err { OnErr result (self.new ≡ self.old) }
+    {
+        match entries.keeper() {
+            Keeper::Rows(rows) => self.add_rows(rows),
+            Keeper::Pairs(pairs) => self.add_pairs(pairs),
+        }
+    }
+
     /// Adds copies of the entries of these rows. Asks for memory if there is no room for them.
-    pub(crate) fn add_rows(&mut self, rows: &Rows) -> Result<(), NoMemory>
+    fn add_rows(&mut self, rows: &Rows) -> Result<(), NoMemory>
         requires paired { length rows.now.keys ≡ length rows.now.values }
         ensures ok { OnOk result (self.new ≡ self.old ++ entries_in rows.now.keys rows.now.values) }
         ensures err { OnErr result (self.new ≡ self.old) }
-        ensures bounded { length rows.now.keys < 2 ^ 57 }
     {
         let more = rows.len();
         self.rows.reserve(more)?;
@@ -135,14 +155,13 @@ impl EntryList {
     }
 
     /// Adds copies of these entries. Asks for memory if there is no room for them.
-    pub(crate) fn add_entries(&mut self, entries: &[(Key, Value)]) -> Result<(), NoMemory>
-        ensures ok { OnOk result (self.new ≡ self.old ++ entries.now) }
+    fn add_pairs(&mut self, pairs: &[(Key, Value)]) -> Result<(), NoMemory>
+        ensures ok { OnOk result (self.new ≡ self.old ++ pairs.now) }
         ensures err { OnErr result (self.new ≡ self.old) }
-        ensures bounded { length entries.now < 2 ^ 57 }
     {
-        let more = entries.len();
+        let more = pairs.len();
         self.rows.reserve(more)?;
-        push_entries(&mut self.rows, entries);
+        push_pairs(&mut self.rows, pairs);
         Ok(())
     }
 
@@ -157,13 +176,13 @@ impl EntryList {
 }
 
 /// Adds copies of these entries to the rows, which have room for them.
-fn push_entries(rows: &mut Rows, entries: &[(Key, Value)])
-    requires room { length rows.old.keys + length entries.now ≤ rows.old.room }
-    ensures keys { rows.new.keys ≡ rows.old.keys ++ map (λ entry. entry.0) entries.now }
-    ensures values { rows.new.values ≡ rows.old.values ++ map (λ entry. entry.1) entries.now }
+fn push_pairs(rows: &mut Rows, pairs: &[(Key, Value)])
+    requires room { length rows.old.keys + length pairs.now ≤ rows.old.room }
+    ensures keys { rows.new.keys ≡ rows.old.keys ++ map (λ pair. pair.0) pairs.now }
+    ensures values { rows.new.values ≡ rows.old.values ++ map (λ pair. pair.1) pairs.now }
 {
-    for entry in entries {
-        rows.push_reserved(entry.0.as_slice(), entry.1.as_slice());
+    for pair in pairs {
+        rows.push_reserved(pair.0.as_slice(), pair.1.as_slice());
     }
 }
 

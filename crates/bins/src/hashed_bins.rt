@@ -12,7 +12,7 @@ ghost use Rattle.bins.specs.Trees.{Locates, StandOnce};
 
 use crate::bins::Bins;
 use crate::counts::Counts;
-use crate::entry_list::EntryList;
+use crate::entry_view::EntryView;
 use crate::hashes::{HashedKey, Seed};
 use crate::index::Index;
 use crate::occupied::{Occupied, Occupies};
@@ -222,8 +222,8 @@ impl Bins for HashedBins {
         }
     }
 
-    fn copy_into(&self, list: &mut EntryList) -> Result<(), NoMemory> {
-        list.add_rows(&self.rows)
+    fn view(&self) -> EntryView<'_> {
+        EntryView::of_rows(&self.rows)
     }
 
     fn count(&self) -> u64 {

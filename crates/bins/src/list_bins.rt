@@ -7,7 +7,7 @@ ghost use Rattle.bins.specs.Positions.{IsAt, IsGapFor};
 
 use crate::bins::Bins;
 use crate::counts::Counts;
-use crate::entry_list::EntryList;
+use crate::entry_view::EntryView;
 use crate::hashes::HashedKey;
 use crate::replacement::{count_of, replace_values};
 use bpf_model::{Key, NoMemory, Value};
@@ -115,8 +115,8 @@ impl Bins for ListBins {
         }
     }
 
-    fn copy_into(&self, list: &mut EntryList) -> Result<(), NoMemory> {
-        list.add_entries(&self.entries)
+    fn view(&self) -> EntryView<'_> {
+        EntryView::of_pairs(&self.entries)
     }
 
     fn count(&self) -> u64 {

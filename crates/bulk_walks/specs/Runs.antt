@@ -1,5 +1,5 @@
 -- What each worker of a walk has once it has scanned its stripes.
-use Rattle.std.specs.Prelude.{◌≡◌, ◌<◌, ◌+◌, ℕ, ⊤, List, [], ◌∷◌, ◌++◌, Option, Result, IfOk, length, slice_index_or}
+use Rattle.std.specs.Prelude.{◌≡◌, ◌<◌, ◌+◌, ℕ, ⊤, List, [], ◌∷◌, ◌++◌, Option, Result, IfOk, OnOk, length, slice_index_or}
 use Rattle.stripe_rule.specs.declared.view.View.{View}
 use Rattle.verifier.specs.Checked.{Checked}
 use Rattle.bpf_model.specs.declared.memory.NoMemory.{NoMemory}
@@ -7,6 +7,7 @@ use Rattle.bins.specs.Table.{Entry}
 use Rattle.bin_stripes.specs.declared.ghost_action.GhostAction.{GhostAction}
 use Rattle.bin_stripes.specs.Passes.{PassState}
 use Rattle.atomic_methods.specs.declared.walk_reply.WalkKind.{WalkKind}
+use Rattle.bulk_walks.specs.declared.finds.Finds.{Finds}
 use Rattle.bulk_walks.specs.declared.part.Part.{Part}
 use Rattle.bulk_walks.specs.declared.part.Gathered.{Gathered}
 use Rattle.bulk_walks.specs.Walks.{Walked, MayScan}
@@ -19,6 +20,13 @@ pub record RunsSome (kind : WalkKind) (checked : Checked) (arg : Option (List �
   pub runs : (early : List Entry) → IsGathered kind checked arg early gathered
       → (later : List Entry) × (IsGathered kind checked arg later new × (early ++ waiting ≡ later ++ left))
   pub many : new.scanned + length left ≡ gathered.scanned + length waiting
+
+-- a worker was shown the entries of a stripe: the program ran on the first of those that it then has, or on none; or memory was
+-- refused
+pub record SeesStripe (old : Finds) (entries : List Entry) (new : Finds) : Type 0 where
+  pub walk : new.walk.now ≡ old.walk.now
+  pub runs : OnOk new.outcome (RunsSome old.walk.now.kind old.walk.now.program.now old.walk.now.arg.now old.gathered (old.waiting ++ entries)
+      new.gathered new.waiting)
 
 -- a worker found the entries of its stripes; the program has run on the early ones, and the others wait
 pub record WorkerRuns (kind : WalkKind) (checked : Checked) (arg : Option (List ℕ)) (n workers worker : ℕ) (v w : View GhostAction)

@@ -2,36 +2,18 @@
 ghost use Rattle.std.specs.Prelude.{◌≡◌, ◌+◌, ◌<◌, ◌^◌, All, IfOk, OnOk, MatchResult, Ok, length, map, vec_len};
 ghost use Rattle.bin_stripes.specs.Passes.{stripes_of};
 ghost use Rattle.bulk_walks.specs.Walks.{Walked, AllWalked, MayScan};
-ghost use Rattle.bulk_walks.specs.Runs.{RunsSome, WorkerRuns, TeamRuns};
+ghost use Rattle.bulk_walks.specs.Runs.{WorkerRuns, TeamRuns};
 
-use crate::part::{Gathered, Part};
+use crate::finds::Finds;
+use crate::part::Part;
 use crate::turns::Turns;
 use crate::walk::Walk;
 use bin_stripes::{Gate, Pass, StripedMap};
-use bins::EntryList;
 use bpf_model::NoMemory;
 use std::alloc::Global;
 use std::sync::Wait;
 use std::thread::Threads;
 use workers::work;
-
-/// Runs the program on the waiting entries, if the worker has found at least `threshold` so far. Else they go on waiting.
-fn run_if_enough(
-    alloc: Global,
-    walk: &Walk<'_>,
-    gathered: &mut Gathered,
-    waiting: &mut EntryList,
-) -> Result<(), NoMemory>
-    requires room { gathered.old.scanned + length waiting.old < 2 ^ 64 }
-    ensures { OnOk result (RunsSome walk.now.kind walk.now.program.now walk.now.arg.now gathered.old waiting.old gathered.new waiting.new) }
-{
-    if gathered.scanned + (waiting.len() as u64) < walk.threshold {
-        return Ok(());
-    }
-    gathered.add(alloc, walk, waiting)?;
-    *waiting = EntryList::new(alloc);
-    Ok(())
-}
 
 /// Scans the worker's stripes, one after the other, and runs the program on their entries as soon as it may.
 fn run_turns<R: Wait, G: Gate>(
@@ -50,19 +32,15 @@ fn run_turns<R: Wait, G: Gate>(
 {
     worker.start(gate);
     let stripes = worker.map.stripes();
-    let mut gathered = Gathered::new(alloc);
-    let mut waiting = EntryList::new(alloc);
+    let mut finds = Finds::new(alloc, walk);
     for stripe in 0..stripes {
         if stripe % worker.workers == worker.number {
-            worker.map.copy_stripe(rt, pass, stripe, &mut waiting)?;
-            run_if_enough(alloc, walk, &mut gathered, &mut waiting)?;
+            worker.map.visit_stripe(rt, pass, stripe, &mut finds);
+            finds.outcome?;
+            finds.run_if_enough()?;
         }
     }
-    Ok(Part {
-        gathered,
-        waiting,
-        answers: None,
-    })
+    Ok(finds.into_part())
 }
 
 /// Collects the parts of the workers. Returns `NoMemory` if one has none.

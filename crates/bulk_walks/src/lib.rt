@@ -11,6 +11,7 @@ mod answering;
 mod answers;
 mod count;
 mod finding;
+mod finds;
 mod gathering;
 mod merging;
 mod part;

@@ -1,7 +1,7 @@
 use Rattle.std.proofs.Common.{◌++◌, List, length, sym, ap, ◌∙◌, arith}
 use Rattle.std.proofs.lemmas.List.{append-nil}
 use Rattle.bins.specs.Table.{Entry}
-use Rattle.bulk_walks.proofs.finding.run_if_enough.Goals as goal
+use Rattle.bulk_walks.proofs.finds.Finds.run_if_enough.Goals as goal
 
 -- none waits any more
 pub returns : goal.returns
