@@ -239,6 +239,15 @@ pub(crate) fn make_copies<B: NotedBins + Drop>(
     }
 }
 
+/// Shows the entries of these bins to the visitor.
+fn show<B: NotedBins, V: Visitor>(bins: &B, visitor: &mut V)
+    requires may { V.may_visit visitor.old }
+    ensures shown { Shown V.visits (B.table bins.now) visitor.old visitor.new }
+    ensures bounded { length (map.entries (B.table bins.now)) < 2 ^ 57 }
+{
+    visitor.visit(&bins.view());
+}
+
 /// Shows the stripe's entries to the visitor where they lie, in any order. Takes no memory, unless the visitor does.
 pub(crate) fn make_visit<B: NotedBins + Drop, V: Visitor>(
     table: &Stripes<B>,
@@ -258,7 +267,7 @@ pub(crate) fn make_visit<B: NotedBins + Drop, V: Visitor>(
     let Some(bins) = seat.slot_mut(table, stripe) else {
         unreachable!()
     };
-    visitor.visit(&bins.view());
+    show(&*bins, visitor);
     let found = Snapshot::of(&*bins);
     let_go::<B, _, Scanning>(table, seat, stripe, &found);
 }

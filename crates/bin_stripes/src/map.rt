@@ -12,8 +12,8 @@ use crate::fault::CallFault;
 use crate::gate::Gate;
 use crate::ghost_action::GhostAction;
 use crate::held::{
-    CallAt, Replacer, make_call, make_copies, make_count, make_expiry, make_replacements, make_scan,
-    make_visit,
+    CallAt, Replacer, make_call, make_copies, make_count, make_expiry, make_replacements,
+    make_scan, make_visit,
 };
 use crate::holds::Holds;
 use crate::pass::Pass;

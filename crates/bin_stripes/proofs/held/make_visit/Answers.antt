@@ -35,7 +35,7 @@ returns-clause-made g c = let n = c.args.table.now.table_id.slots in let k = c.a
     found_is g.B.Bins.table g.B.NotedBins.noted c.args.table.now.table_id.slots c.args.stripe c.args.seat.now.me c.in-Some.bins (rest c.args.seat.now.me.1) c.requires.held (c.slot_mut.ensures.value ∙ ap (λ s. (c.args.stripe, s) ∷ rest c.args.seat.now.me.1) c.in-Some.is),
     lets_as n k _ _ c.args.seat.now.me c.let_go.new.seat.me (λ actions a. subst (λ (b : g.row.B.Denot). actions ≡ scanned (map.entries (g.B.Bins.table b)) ∷ []) c.of-found.ensures a)
         (lets_from n k _ c.args.seat.now.me _ c.let_go.new.seat.me (rest c.args.seat.now.me.1) (Some c.in-Some.bins) (Some c.in-Some.bins) refl (c.slot_mut.ensures.value ∙ ap (λ s. (c.args.stripe, s) ∷ rest c.args.seat.now.me.1) c.in-Some.is) refl c.let_go.ensures.made),
-    record { entries = c.view.result; are = c.view.ensures.are; visits = c.visit.ensures.visits },
-    c.view.ensures.bounded,
+    c.show.ensures.shown,
+    c.show.ensures.bounded,
   ),
 )
