@@ -1,25 +1,24 @@
 #!/usr/bin/env bash
-# Times calls on a map that threads share beside a plain C table of buckets, each guarded by a mutex; then requests of a
-# session over memory, and walks by teams: nine times in turn, and prints the medians. Where it compares two it prints the
-# least times too, since what else the machine does only adds to a time. (Of calls by several threads they say little: threads
-# that happen to run one after the other don't wait for each other.) By hand, not by the gate. It takes two to three minutes,
-# and stops after four, where a program is built; to build it takes longer, since all below it is proved first.
+# Times calls on a map that threads share beside a good map in C, bench/table.c, with the same stripes and locks of the same kind;
+# then requests of a session over memory, and walks by teams: nine times in turn, and prints the medians. Where it compares two it
+# prints the least times too, since what else the machine does only adds to a time. (Of calls by several threads they say little:
+# threads that happen to run one after the other don't wait for each other.) By hand, not by the gate. It takes some minutes, since
+# each start with a million keys enters them first, and it stops after seven. If a program is built, it takes longer, since all below
+# it is proved first.
 source "$(dirname "$0")/common.sh"
 rounds=9
 SECONDS=0
 # seconds that all may take, and one run
-all_seconds=240
+all_seconds=420
 run_seconds=30
 
 gcc -O2 -pthread -o "$work/table" bench/table.c
-gcc -O2 -pthread -DVALUE_BYTES=1024 -o "$work/long_table" bench/table.c
-table=$work/table
 
 # a side, and its words
 side() {
     [ $SECONDS -lt $all_seconds ] || { echo "stopped after $SECONDS seconds, at: $*" >&2; exit 1; }
     case $1 in
-        table) timeout $run_seconds "$table" "${@:2}" ;;
+        table) timeout $run_seconds "$work/table" "${@:2}" ;;
         *) timeout $run_seconds "$bench" "$@" ;;
     esac
 }
@@ -77,12 +76,13 @@ for kind in get put merge; do
         done
     done
 done
+for kind in get put merge; do
+    for keys in 100000 1000000; do
+        measure_calls "$kind, $keys scattered keys, 1 threads" $kind scattered=$keys 1 1000000
+    done
+done
 measure_calls "merge, a key for each of 4 threads, in stripes side by side" merge near 4 1000000
 measure_calls "merge, a key for each of 4 threads, in stripes 8 apart" merge apart 4 1000000
-table=$work/long_table
-for kind in get put merge; do
-    measure_calls "$kind, 1 keys, 1 threads, beside C with values as long" $kind 1 1 1000000
-done
 for kind in get put merge; do measure_session $kind 200; done
 measure_walk for_each 100000 20
 measure_walk mapping_count 1000 2000

@@ -1,18 +1,31 @@
-/* A table of buckets, each guarded by a mutex, to compare the shared map with. Keys, values, hash and number of buckets are
-   those of crates/bench; a bucket is a list sorted by key, and merging adds the numbers, without a program. A value has room
-   for a quarter of the bytes that the map's has: with -DVALUE_BYTES=1024 it has as much, and calls copy more.
+/* A map that threads share, to compare ours with. It has 64 stripes by the same hash, each with a lock of the same kind: a word
+   alone in 128 bytes, taken by a compare-exchange and released by an exchange. A thread that waits yields forty times, then
+   sleeps for 50 us between tries; in our map it also goes first if it has waited for long. In a stripe, entries are chained in
+   buckets by a second hash, and there are never more entries than buckets. Each entry is allocated in its exact size, and a call
+   copies just the bytes of its answer. Merging adds the numbers, without a program. Numbers have the low byte first, as on x86-64.
    table KIND KEYS THREADS COUNT does what `bench calls` does with these words, and prints the same. */
+#include <endian.h>
 #include <pthread.h>
+#include <sched.h>
+#include <stdalign.h>
+#include <stdatomic.h>
+#include <stdbool.h>
 #include <stdint.h>
 #include <stdio.h>
 #include <stdlib.h>
 #include <string.h>
+#include <time.h>
 
-#ifndef VALUE_BYTES
-#define VALUE_BYTES 256
-#endif
+enum { STRIPES = 64, STRIPE_BYTES = 128, FIRST_BUCKETS = 8, KEY_BYTES = 64, VALUE_BYTES = 1024, MOST_THREADS = 63 };
 
-enum { BUCKETS = 64, KEY_BYTES = 64, MOST_THREADS = 63 };
+/* a thread that waits yields this often, and then sleeps for this many nanoseconds each time */
+enum { YIELDS = 40, NAP_NANOS = 50000 };
+
+/* a thread goes on by this many scattered keys from one call to the next */
+enum { STEP = 7919 };
+
+/* key number 1 of the scattered ones, as a number; it also mixes hashes */
+#define GOLDEN 0x9e3779b97f4a7c15
 
 struct key {
     uint8_t size, bytes[KEY_BYTES];
@@ -23,22 +36,27 @@ struct value {
     uint8_t bytes[VALUE_BYTES];
 };
 
+/* the bytes are the key's and then the value's */
 struct entry {
-    struct key key;
-    struct value value;
+    struct entry *next;
+    uint32_t hash;
+    uint16_t key_size, value_size;
+    uint8_t bytes[];
 };
 
-struct bucket {
-    pthread_mutex_t lock;
-    struct entry *entries;
-    size_t count, room;
+/* the word is 1 while a thread holds the stripe, else 0; the number of buckets is a power of two, and the mask one less */
+struct stripe {
+    alignas(STRIPE_BYTES) _Atomic uint64_t word;
+    alignas(STRIPE_BYTES) struct entry **buckets;
+    size_t mask, count;
 };
 
 enum kind { GET, PUT, MERGE };
 
-/* all threads call so many keys; or each calls one of its own, in buckets so far apart */
+/* all threads call this many keys, scattered or rising; or each calls one of its own, in stripes this far apart */
 struct keys {
     uint64_t shared, apart;
+    bool scattered;
 };
 
 struct work {
@@ -47,117 +65,230 @@ struct work {
     uint64_t worker, count;
 };
 
-static struct bucket table[BUCKETS];
+static struct stripe stripes[STRIPES];
 
-static struct bucket *bucket_of(const struct key *key)
+/* the hash after four more bytes: each makes it 31 times the hash and the byte */
+static uint32_t with_four(uint32_t hash, const uint8_t *bytes)
+{
+    return hash * 923521 + bytes[0] * 29791 + bytes[1] * 961 + bytes[2] * 31 + bytes[3];
+}
+
+/* the hash of all bytes but the last three at most */
+static uint32_t hash_of_fours(const struct key *key)
 {
     uint32_t hash = 1;
-    for (size_t i = 0; i < key->size; i++)
+    for (size_t i = 0; i + 4 <= key->size; i += 4)
+        hash = with_four(hash, key->bytes + i);
+    return hash;
+}
+
+static struct stripe *stripe_of(const struct key *key)
+{
+    uint32_t hash = hash_of_fours(key);
+    for (size_t i = key->size / 4 * 4; i < key->size; i++)
         hash = hash * 31 + key->bytes[i];
-    return &table[hash % BUCKETS];
+    return &stripes[hash % STRIPES];
 }
 
-static int compare(const struct key *a, const struct key *b)
+/* the two halves of a product's 128 bits, joined by xor */
+static uint64_t mixed(uint64_t hash, uint64_t word)
 {
-    int order = memcmp(a->bytes, b->bytes, a->size < b->size ? a->size : b->size);
-    return order ? order : a->size - b->size;
+    unsigned __int128 product = (unsigned __int128)(hash ^ word) * GOLDEN;
+    return (uint64_t)product ^ (uint64_t)(product >> 64);
 }
 
-/* where the key is, or where it would go; whether it is there */
-static int find(const struct bucket *bucket, const struct key *key, size_t *place)
+/* a word of at most eight bytes */
+static uint64_t word_of(const uint8_t *bytes, size_t size)
 {
-    size_t low = 0, high = bucket->count;
-    while (low < high) {
-        size_t middle = low + (high - low) / 2;
-        int order = compare(&bucket->entries[middle].key, key);
-        if (order == 0) {
-            *place = middle;
-            return 1;
-        }
-        if (order < 0)
-            low = middle + 1;
+    uint64_t word = 0;
+    memcpy(&word, bytes, size);
+    return word;
+}
+
+/* the hash inside a stripe; it begins with digits of pi */
+static uint32_t hash_of(const struct key *key)
+{
+    uint64_t hash = 0x243f6a8885a308d3 ^ key->size;
+    size_t words = key->size / 8, rest = key->size % 8;
+    for (size_t i = 0; i < words; i++)
+        hash = mixed(hash, word_of(key->bytes + 8 * i, 8));
+    return rest ? mixed(hash, word_of(key->bytes + 8 * words, rest)) : hash;
+}
+
+static bool try_take(struct stripe *stripe)
+{
+    uint64_t expected = 0;
+    return atomic_compare_exchange_strong(&stripe->word, &expected, 1);
+}
+
+static __attribute__((noinline, cold)) void wait_for(struct stripe *stripe)
+{
+    static const struct timespec nap = {.tv_nsec = NAP_NANOS};
+    for (unsigned rests = 0; !try_take(stripe); rests++) {
+        if (rests < YIELDS)
+            sched_yield();
         else
-            high = middle;
+            nanosleep(&nap, NULL);
     }
-    *place = low;
-    return 0;
 }
 
-static void add(struct bucket *bucket, size_t place, const struct key *key, const struct value *value)
+static void take(struct stripe *stripe)
 {
-    if (bucket->count == bucket->room) {
-        bucket->room = bucket->room ? 2 * bucket->room : 4;
-        bucket->entries = realloc(bucket->entries, bucket->room * sizeof *bucket->entries);
-        if (!bucket->entries)
-            abort();
+    if (!try_take(stripe))
+        wait_for(stripe);
+}
+
+static void release(struct stripe *stripe)
+{
+    atomic_exchange(&stripe->word, 0);
+}
+
+static void *allocated(void *memory)
+{
+    if (!memory)
+        abort();
+    return memory;
+}
+
+static bool is_of(const struct entry *entry, const struct key *key, uint32_t hash)
+{
+    return entry->hash == hash && entry->key_size == key->size && !memcmp(entry->bytes, key->bytes, key->size);
+}
+
+/* the link to the key's entry, or to none at the end of its chain */
+static struct entry **find(const struct stripe *stripe, const struct key *key, uint32_t hash)
+{
+    struct entry **link = &stripe->buckets[hash & stripe->mask];
+    while (*link && !is_of(*link, key, hash))
+        link = &(*link)->next;
+    return link;
+}
+
+static void move(struct entry *entry, struct entry **buckets, size_t mask)
+{
+    while (entry) {
+        struct entry *next = entry->next, **first = &buckets[entry->hash & mask];
+        entry->next = *first;
+        *first = entry;
+        entry = next;
     }
-    memmove(&bucket->entries[place + 1], &bucket->entries[place],
-            (bucket->count - place) * sizeof *bucket->entries);
-    bucket->entries[place].key = *key;
-    bucket->entries[place].value = *value;
-    bucket->count++;
 }
 
-static uint64_t number_of(const struct value *value)
+/* doubles the number of buckets */
+static void grow(struct stripe *stripe)
 {
-    uint64_t number = 0;
-    memcpy(&number, value->bytes, sizeof number);
-    return number;
+    size_t mask = 2 * stripe->mask + 1;
+    struct entry **buckets = allocated(calloc(mask + 1, sizeof *buckets));
+    for (size_t i = 0; i <= stripe->mask; i++)
+        move(stripe->buckets[i], buckets, mask);
+    free(stripe->buckets);
+    stripe->buckets = buckets;
+    stripe->mask = mask;
 }
 
-static struct value numbered_value(uint64_t number)
+static struct entry *new_entry(const struct key *key, uint32_t hash, const struct value *value)
 {
-    struct value value;
-    value.size = sizeof number;
-    memcpy(value.bytes, &number, sizeof number);
-    return value;
+    struct entry *entry = allocated(malloc(sizeof *entry + key->size + value->size));
+    *entry = (struct entry){.hash = hash, .key_size = key->size, .value_size = value->size};
+    memcpy(entry->bytes, key->bytes, key->size);
+    memcpy(entry->bytes + key->size, value->bytes, value->size);
+    return entry;
 }
 
-/* what Java's get, put and merge answer; of no bytes where they answer null */
-static struct value call(enum kind kind, const struct key *key, const struct value *value)
+/* a value of another size moves the entry */
+static void set(struct entry **link, const void *bytes, size_t size)
 {
-    struct value answer = {.size = 0};
-    struct bucket *bucket = bucket_of(key);
-    size_t place;
-    pthread_mutex_lock(&bucket->lock);
-    int found = find(bucket, key, &place);
-    struct value *old = found ? &bucket->entries[place].value : NULL;
-    if (found && kind != MERGE)
-        answer = *old;
-    if (kind == MERGE)
-        answer = found ? numbered_value(number_of(old) + number_of(value)) : *value;
-    if (found && kind != GET)
-        *old = kind == MERGE ? answer : *value;
-    if (!found && kind != GET)
-        add(bucket, place, key, value);
-    pthread_mutex_unlock(&bucket->lock);
-    return answer;
+    struct entry *entry = *link;
+    if (entry->value_size != size) {
+        entry = allocated(realloc(entry, sizeof *entry + entry->key_size + size));
+        entry->value_size = size;
+        *link = entry;
+    }
+    memcpy(entry->bytes + entry->key_size, bytes, size);
 }
 
-static struct key key_of(struct keys keys, uint64_t number)
+/* the number of a value of eight bytes, and 0 for others */
+static uint64_t number_of(const uint8_t *bytes, size_t size)
 {
-    struct key key;
+    return size == 8 ? word_of(bytes, 8) : 0;
+}
+
+static void write_answer(struct value *answer, const void *bytes, size_t size)
+{
+    answer->size = size;
+    memcpy(answer->bytes, bytes, size);
+}
+
+/* a call on a key that is there */
+static void call_present(enum kind kind, struct entry **link, const struct value *value, struct value *answer)
+{
+    const uint8_t *old = (*link)->bytes + (*link)->key_size;
+    size_t old_size = (*link)->value_size;
+    if (kind == MERGE) {
+        uint64_t sum = number_of(old, old_size) + number_of(value->bytes, value->size);
+        set(link, &sum, sizeof sum);
+        write_answer(answer, &sum, sizeof sum);
+        return;
+    }
+    write_answer(answer, old, old_size);
+    if (kind == PUT)
+        set(link, value->bytes, value->size);
+}
+
+/* what Java's get, put and merge answer goes into the caller's buffer; false if they answer null */
+static __attribute__((noinline)) bool call(enum kind kind, const struct key *key, const struct value *value,
+                                           struct value *answer)
+{
+    uint32_t hash = hash_of(key);
+    struct stripe *stripe = stripe_of(key);
+    take(stripe);
+    struct entry **link = find(stripe, key, hash);
+    bool found = *link;
+    if (found) {
+        call_present(kind, link, value, answer);
+    } else if (kind != GET) {
+        *link = new_entry(key, hash, value);
+        if (++stripe->count > stripe->mask + 1)
+            grow(stripe);
+    }
+    release(stripe);
+    if (!found && kind == MERGE)
+        write_answer(answer, value->bytes, value->size);
+    return found || kind == MERGE;
+}
+
+static void make_key(struct keys keys, uint64_t number, struct key *key)
+{
     if (keys.apart) {
-        key.size = 1;
-        key.bytes[0] = (number * keys.apart + 33) % BUCKETS;
-        return key;
+        key->size = 1;
+        key->bytes[0] = (number * keys.apart + 33) % STRIPES;
+        return;
     }
-    key.size = sizeof number;
-    for (size_t i = 0; i < sizeof number; i++)
-        key.bytes[i] = number >> (56 - 8 * i);
-    return key;
+    uint64_t bytes = htobe64(keys.scattered ? number * GOLDEN : number);
+    key->size = sizeof bytes;
+    memcpy(key->bytes, &bytes, sizeof bytes);
 }
+
+/* the number of the key that the worker calls at this turn */
+static uint64_t number_at(const struct work *work, uint64_t turn)
+{
+    uint64_t shared = work->keys.shared;
+    if (work->keys.apart)
+        return work->worker;
+    uint64_t place = work->worker * (shared / 4) + turn;
+    return (work->keys.scattered ? place * STEP : place) % shared;
+}
+
+static const struct value one = {.size = 8, .bytes = {1}};
 
 static void *run(void *given)
 {
     const struct work *work = given;
-    struct value one = numbered_value(1);
-    uint64_t shared = work->keys.shared;
+    struct key key;
+    struct value answer;
     for (uint64_t turn = 0; turn < work->count; turn++) {
-        uint64_t number = work->keys.apart ? work->worker : (work->worker * (shared / 4) + turn) % shared;
-        struct key key = key_of(work->keys, number);
-        volatile uint16_t size = call(work->kind, &key, &one).size;
-        (void)size;
+        make_key(work->keys, number_at(work, turn), &key);
+        call(work->kind, &key, &one, &answer);
     }
     return NULL;
 }
@@ -165,36 +296,55 @@ static void *run(void *given)
 static uint64_t sum_of(struct keys keys, uint64_t count)
 {
     uint64_t sum = 0;
+    struct key key;
+    struct value answer;
     for (uint64_t number = 0; number < count; number++) {
-        struct key key = key_of(keys, number);
-        struct value value = call(GET, &key, NULL);
-        sum += number_of(&value);
+        make_key(keys, number, &key);
+        if (call(GET, &key, NULL, &answer))
+            sum += number_of(answer.bytes, answer.size);
     }
     return sum;
 }
 
 static void fill(struct keys keys, uint64_t count)
 {
-    struct value one = numbered_value(1);
+    struct key key;
+    struct value answer;
     for (uint64_t number = 0; number < count; number++) {
-        struct key key = key_of(keys, number);
-        call(PUT, &key, &one);
+        make_key(keys, number, &key);
+        call(PUT, &key, &one, &answer);
     }
 }
 
-static int read_words(char **words, struct work *work, uint64_t *threads)
+static void open_stripes(void)
+{
+    for (size_t i = 0; i < STRIPES; i++) {
+        stripes[i].buckets = allocated(calloc(FIRST_BUCKETS, sizeof *stripes[i].buckets));
+        stripes[i].mask = FIRST_BUCKETS - 1;
+    }
+}
+
+static struct keys keys_named(const char *word)
+{
+    static const char scattered[] = "scattered=";
+    size_t size = sizeof scattered - 1;
+    if (!strcmp(word, "near"))
+        return (struct keys){.apart = 1};
+    if (!strcmp(word, "apart"))
+        return (struct keys){.apart = 8};
+    if (!strncmp(word, scattered, size))
+        return (struct keys){.shared = strtoull(word + size, NULL, 10), .scattered = true};
+    return (struct keys){.shared = strtoull(word, NULL, 10)};
+}
+
+static bool read_words(char **words, struct work *work, uint64_t *threads)
 {
     static const char *const kinds[] = {"get", "put", "merge"};
     int kind = 0;
     while (kind < 3 && strcmp(words[1], kinds[kind]))
         kind++;
     work->kind = kind;
-    if (!strcmp(words[2], "near"))
-        work->keys.apart = 1;
-    else if (!strcmp(words[2], "apart"))
-        work->keys.apart = 8;
-    else
-        work->keys.shared = strtoull(words[2], NULL, 10);
+    work->keys = keys_named(words[2]);
     *threads = strtoull(words[3], NULL, 10);
     work->count = strtoull(words[4], NULL, 10);
     return kind < 3 && (work->keys.apart || work->keys.shared) && *threads > 0 && *threads <= MOST_THREADS;
@@ -206,11 +356,10 @@ int main(int words, char **word)
     pthread_t started[MOST_THREADS];
     uint64_t threads;
     if (words != 5 || !read_words(word, &plan, &threads)) {
-        fprintf(stderr, "table get|put|merge KEYS|near|apart THREADS COUNT\n");
+        fprintf(stderr, "table get|put|merge KEYS|near|apart|scattered=KEYS THREADS COUNT\n");
         return 2;
     }
-    for (size_t i = 0; i < BUCKETS; i++)
-        pthread_mutex_init(&table[i].lock, NULL);
+    open_stripes();
     uint64_t keys = plan.keys.apart ? threads : plan.keys.shared;
     fill(plan.keys, keys);
     for (uint64_t i = 0; i < threads; i++) {

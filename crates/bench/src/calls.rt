@@ -1,7 +1,7 @@
 //! Calls on a map that threads share.
 ghost use Rattle.std.specs.Prelude.{◌≡◌, All};
 
-use crate::opening::{last_pass, numbered_key, numbered_value, opened};
+use crate::opening::{last_pass, numbered_key, numbered_value, opened, scattered_key};
 use crate::programs::{Sample, verified};
 use anyhow::{Result, bail};
 use atomic_methods::{Call, Reply};
@@ -64,6 +64,8 @@ impl Method {
 pub enum Keys {
     /// All threads call this many keys, each starting at its own place.
     Shared(u64),
+    /// The same with this many scattered keys, and each thread takes them in long steps.
+    Scattered(u64),
     /// Each thread has its own key, and their stripes are this many apart.
     Own(u64),
 }
@@ -71,16 +73,28 @@ pub enum Keys {
 /// The distance of the stripes of keys that are far apart.
 const FAR: u64 = 8;
 
+/// From one call to the next, a thread goes on by this many scattered keys. It is a prime: a thread comes to all keys, unless
+/// their count is a multiple of it.
+const STEP: u64 = 7919;
+
 /// Returns the key of one byte in this stripe of 64: its hash is 31 and the byte.
 fn key_in_stripe(stripe: u64) -> Result<Key> {
     let byte = stripe.wrapping_add(33) % 64;
     Ok(Key::from_slice(&[byte as u8])?)
 }
 
+/// Returns a worker's place at this turn: each worker begins a quarter of the keys further on.
+fn place(worker: u64, turn: u64, count: u64) -> u64 {
+    worker.wrapping_mul(count / 4).wrapping_add(turn)
+}
+
 impl Keys {
-    /// Reads a word: `near` is a key for each thread, in neighbouring stripes, and `apart` in stripes that are 8 apart;
-    /// otherwise the word is how many keys all threads share.
+    /// Reads a word: `near` is a key for each thread, in neighbouring stripes, and `apart` in stripes that are 8 apart.
+    /// Otherwise the word is how many keys all threads share, and with `scattered=` before it these are scattered.
     pub fn named(word: &str) -> Result<Keys> {
+        if let Some(count) = word.strip_prefix("scattered=") {
+            return Ok(Keys::Scattered(count.parse()?));
+        }
         Ok(match word {
             "near" => Keys::Own(1),
             "apart" => Keys::Own(FAR),
@@ -91,7 +105,7 @@ impl Keys {
     /// Returns how many keys `threads` threads call.
     fn count(self, threads: u64) -> u64 {
         match self {
-            Keys::Shared(count) => count,
+            Keys::Shared(count) | Keys::Scattered(count) => count,
             Keys::Own(_) => threads,
         }
     }
@@ -100,6 +114,7 @@ impl Keys {
     fn key(self, number: u64) -> Result<Key> {
         match self {
             Keys::Shared(_) => Ok(numbered_key(number)?),
+            Keys::Scattered(_) => Ok(scattered_key(number)?),
             Keys::Own(apart) => key_in_stripe(number.wrapping_mul(apart)),
         }
     }
@@ -107,7 +122,8 @@ impl Keys {
     /// Returns the number of the key that the worker calls at this turn.
     fn number(self, worker: u64, turn: u64) -> u64 {
         match self {
-            Keys::Shared(count) => worker.wrapping_mul(count / 4).wrapping_add(turn) % count.max(1),
+            Keys::Shared(count) => place(worker, turn, count) % count.max(1),
+            Keys::Scattered(count) => place(worker, turn, count).wrapping_mul(STEP) % count.max(1),
             Keys::Own(_) => worker,
         }
     }
