@@ -1,7 +1,8 @@
 -- A walk that was stopped by a refused request for memory, and runs on one part of a worker's entries after the other.
-use Rattle.std.proofs.Common.{◌≡◌, ℕ, ◌+◌, List, [], ◌∷◌, ◌++◌, Option, length, length-append, slice_index_or, refl, sym, ap, ◌∙◌, arith}
+use Rattle.std.proofs.Common.{◌≡◌, ℕ, ◌+◌, List, [], ◌∷◌, ◌++◌, Option, Result, Ok, Err, OnOk, length, length-append, slice_index_or, refl, sym, ap, ◌∙◌, arith}
 use Rattle.std.proofs.lemmas.List.{append-nil}
 use Rattle.verifier.specs.Checked.{Checked}
+use Rattle.bpf_model.specs.declared.memory.NoMemory.{NoMemory}
 use Rattle.atomic_methods.specs.declared.walk_reply.WalkKind.{WalkKind}
 use Rattle.bulk_walks.specs.declared.part.Gathered.{Gathered}
 use Rattle.bulk_walks.specs.Kept.{IsGathered}
@@ -17,6 +18,16 @@ may_all n scans before after w = record {
   order = w.order;
   each = λ j d low. may_scan (length before) j scans (slice_index_or before j d).view n (slice_index_or after j d).view (w.each j d low);
 }
+
+-- two facts that hold if a call succeeded
+pub on_ok_both : {A B C : Type 0} (told : Result (Unit {0}) NoMemory) → OnOk told A → OnOk told B → (A → B → C) → OnOk told C
+on_ok_both (Ok done) one other then = then one other
+on_ok_both (Err fault) one other then = tt
+
+-- a fact that holds if a call succeeded, and it did
+pub told_ok : {A : Type 0} (told : Result (Unit {0}) NoMemory) (done : Unit {0}) → told ≡ Ok done → OnOk told A → A
+told_ok (Ok other) done is holds = holds
+told_ok (Err fault) done is holds = absurd cc
 
 -- nothing waits
 none_left : (es : List Entry) → length es ≡ 0 → es ≡ []

@@ -100,11 +100,13 @@ impl<'w, 'a> Finds<'w, 'a> {
     /// Returns what the worker has found.
     pub(crate) fn into_part(self) -> Part
         requires room { self.gathered.scanned + length self.waiting < 2 ^ 64 }
-        ensures gathered { result.gathered ≡ self.gathered }
-        ensures waiting { result.waiting ≡ self.waiting }
+        ensures gathered { result.gathered ≡ self.entry.gathered }
+        ensures waiting { result.waiting ≡ self.entry.waiting }
     {
         let Finds {
-            gathered, waiting, ..
+            gathered,
+            waiting,
+            ..
         } = self;
         Part {
             gathered,

@@ -4,12 +4,12 @@ use Rattle.bins.specs.Table.{Entry}
 use Rattle.bulk_walks.proofs.finds.Finds.run_if_enough.Goals as goal
 
 -- none waits any more
-pub returns : goal.returns
-returns c =
+pub returns-clause-runs : goal.returns-clause-runs
+returns-clause-runs c =
     let none = c.new.ensures in
     record {
       runs = λ early had.
-          let later = early ++ c.args.waiting.now in
-          (later, (c.in_ok-add.ensures.gathered early had, sym (ap (λ (es : List Entry). later ++ es) none ∙ append-nil later)));
-      many = let n = ap (λ (es : List Entry). length es) none in omega (arith, n, c.in_ok-add.ensures.scanned);
+          let later = early ++ c.view.result in
+          (later, (c.in_ok-add.ensures.gathered early had, ap (λ (es : List Entry). early ++ es) (sym c.view.ensures) ∙ sym (ap (λ (es : List Entry). later ++ es) none ∙ append-nil later)));
+      many = let n = ap (λ (es : List Entry). length es) none in let m = ap (λ (es : List Entry). length es) c.view.ensures in omega (arith, n, m, c.in_ok-add.ensures.scanned);
     }
