@@ -84,5 +84,5 @@ done
 measure_calls "merge, a key for each of 4 threads, in stripes side by side" merge near 4 1000000
 measure_calls "merge, a key for each of 4 threads, in stripes 8 apart" merge apart 4 1000000
 for kind in get put merge; do measure_session $kind 200; done
-measure_walk for_each 100000 20
+for kind in for_each for_each_of_none search search_of_none; do measure_walk $kind 100000 20; done
 measure_walk mapping_count 1000 2000

@@ -22,6 +22,8 @@ pub const SIZES: Sizes = Sizes {
 pub enum Sample {
     /// Six instructions: the sum of the old value and the argument.
     Sum,
+    /// Seven instructions: nothing, unless the old value and the argument differ by 77.
+    Rare,
     /// 501 instructions: a store, EXIT, and arithmetic.
     Arithmetic,
     /// Arithmetic on eight registers in turn.
@@ -44,6 +46,17 @@ ldd r9, [r3+0]
 add64 r0, r9
 stxd [r4+0], r0
 mov64 r0, 8
+exit
+";
+
+const RARE: &str = "\
+ldd r0, [r2+0]
+ldd r9, [r3+0]
+sub64 r0, r9
+jeq64 r0, 77, +2
+mov64 r0, -1
+exit
+mov64 r0, 0
 exit
 ";
 
@@ -126,6 +139,7 @@ impl Sample {
     pub fn named(name: &str) -> Option<Sample> {
         match name {
             "sum" => Some(Sample::Sum),
+            "rare" => Some(Sample::Rare),
             "alu" => Some(Sample::Arithmetic),
             "eight" => Some(Sample::Registers),
             "mix" => Some(Sample::Mixed),
@@ -141,6 +155,7 @@ impl Sample {
     pub fn text(self, alloc: Global) -> Result<String, AllocError> {
         match self {
             Sample::Sum => joined(alloc, &[(SUM, 1)]),
+            Sample::Rare => joined(alloc, &[(RARE, 1)]),
             Sample::Arithmetic => joined(
                 alloc,
                 &[

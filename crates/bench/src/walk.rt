@@ -18,8 +18,12 @@ use verifier::Verified;
 pub enum Walk {
     /// Adds each entry and the argument 1.
     ForEach,
+    /// Runs a program that answers nothing on each entry.
+    ForEachOfNone,
     /// Finds the first of these sums, in the order of the keys.
     Search,
+    /// Searches for an answer that no entry has.
+    SearchOfNone,
     MappingCount,
 }
 
@@ -28,9 +32,19 @@ impl Walk {
     pub fn named(name: &str) -> Option<Walk> {
         match name {
             "for_each" => Some(Walk::ForEach),
+            "for_each_of_none" => Some(Walk::ForEachOfNone),
             "search" => Some(Walk::Search),
+            "search_of_none" => Some(Walk::SearchOfNone),
             "mapping_count" => Some(Walk::MappingCount),
             _ => None,
+        }
+    }
+
+    /// Returns the program that it runs.
+    fn sample(self) -> Sample {
+        match self {
+            Walk::ForEachOfNone | Walk::SearchOfNone => Sample::Rare,
+            Walk::ForEach | Walk::Search | Walk::MappingCount => Sample::Sum,
         }
     }
 }
@@ -82,8 +96,12 @@ fn walked<R: Threads + Wait + Sync>(
 {
     let AskedWalk { walk, program, arg } = asked;
     match walk {
-        Walk::ForEach => for_each(rt, alloc, map, team, program, arg, 0, &OpenGate),
-        Walk::Search => search(rt, alloc, map, team, program, arg, 0, &OpenGate),
+        Walk::ForEach | Walk::ForEachOfNone => {
+            for_each(rt, alloc, map, team, program, arg, 0, &OpenGate)
+        }
+        Walk::Search | Walk::SearchOfNone => {
+            search(rt, alloc, map, team, program, arg, 0, &OpenGate)
+        }
         Walk::MappingCount => mapping_count(rt, alloc, map, team, &OpenGate),
     }
 }
@@ -128,7 +146,7 @@ pub fn walk_often<R: Threads + Wait + Sync>(
     }
     let asked = AskedWalk {
         walk,
-        program: verified(alloc, Sample::Sum)?,
+        program: verified(alloc, walk.sample())?,
         arg: Some(numbered_value(1)?),
     };
     let (map, passes) = opened(alloc, workers + 1)?;
