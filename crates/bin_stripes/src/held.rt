@@ -245,7 +245,7 @@ fn show<B: NotedBins, V: Visitor>(bins: &B, visitor: &mut V)
     ensures shown { Shown V.visits (B.table bins.now) visitor.old visitor.new }
     ensures bounded { length (map.entries (B.table bins.now)) < 2 ^ 57 }
 {
-    visitor.visit(&bins.view());
+    visitor.visit(&bins.lend());
 }
 
 /// Shows the stripe's entries to the visitor where they lie, in any order. Takes no memory, unless the visitor does.

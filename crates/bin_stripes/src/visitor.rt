@@ -1,7 +1,7 @@
 //! What looks at the entries of a held stripe.
 ghost use Rattle.std.specs.Prelude.{◌<◌, ◌^◌, length};
 
-use bins::EntryView;
+use bins::LentEntries;
 
 /// Looks at the entries of a stripe where they lie, while the stripe is held.
 pub trait Visitor {
@@ -15,7 +15,7 @@ pub trait Visitor {
     ghost visits: { Self → List Entry → Self → Type 0 };
 
     /// Looks at all entries of a stripe, in any order. All others wait for the stripe meanwhile.
-    fn visit(&mut self, entries: &EntryView<'_>)
+    fn visit(&mut self, entries: &LentEntries<'_>)
         requires may { may_visit self.old }
         ensures visits { visits self.old entries.now self.new };
 }

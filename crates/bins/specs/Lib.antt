@@ -16,4 +16,4 @@ pub mod Trees
 pub mod Finders
 pub mod Fronts
 pub mod Merged
-pub mod Views
+pub mod Lent

@@ -6,8 +6,8 @@ ghost use Rattle.bins.specs.Replacements.{ReplacesEach};
 
 use crate::counts::Counts;
 use crate::entry_list::EntryList;
-use crate::entry_view::EntryView;
 use crate::hashes::{HashedKey, Seed};
+use crate::lent_entries::LentEntries;
 use crate::opening::Opening;
 use crate::sorted_entries::sorted_copies;
 use bpf_model::limits::VALUE_BYTES;
@@ -81,7 +81,7 @@ pub trait Bins {
     }
 
     /// Lends all entries where they lie, in any order. Takes no memory.
-    fn view(&self) -> EntryView<'_>
+    fn lend(&self) -> LentEntries<'_>
         ensures are { AreCopies (table self.now) result }
         // As for `count`.
         ensures bounded { length (map.entries (table self.now)) < 2 ^ 57 };
@@ -93,7 +93,7 @@ pub trait Bins {
         ensures err { OnErr result (list.new ≡ list.old) }
         ensures bounded { length (map.entries (table self.now)) < 2 ^ 57 }
     {
-        list.add_all(&self.view())
+        list.add_all(&self.lend())
     }
 
     /// Returns copies of all entries, in key order. Returns `NoMemory` if a request for memory is refused.

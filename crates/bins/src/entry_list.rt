@@ -7,8 +7,8 @@ ghost use Rattle.bins.specs.Entries.{entries_at, entries_in, entry_of};
 ghost use Rattle.bins.specs.Fronts.{front, AreBytes};
 ghost use Rattle.bins.specs.Table.{Entry, by_bytes};
 
-use crate::entry_view::{EntryView, Keeper};
 use crate::hashes::front_of;
+use crate::lent_entries::{LentEntries, Storage};
 use crate::rows::Rows;
 use bpf_model::limits::{KEY_BYTES, VALUE_BYTES};
 use bpf_model::{Key, NoMemory, Value};
@@ -122,23 +122,23 @@ impl EntryList {
         Ok(())
     }
 
-    /// Views the entries. Takes no memory.
+    /// Lends the entries. Takes no memory.
     #[inline(always)]
-    pub fn view(&self) -> EntryView<'_>
+    pub fn lend(&self) -> LentEntries<'_>
         ensures { result ≡ self.now }
     {
-        EntryView::of_rows(&self.rows)
+        LentEntries::of_rows(&self.rows)
     }
 
     /// Adds copies of these entries after the others. Asks for memory if there is no room for them. Returns `NoMemory` if that
     /// is refused; the entries are then unchanged.
-    pub fn add_all(&mut self, entries: &EntryView<'_>) -> Result<(), NoMemory>
+    pub fn add_all(&mut self, entries: &LentEntries<'_>) -> Result<(), NoMemory>
         ensures ok { OnOk result (self.new ≡ self.old ++ entries.now) }
         ensures err { OnErr result (self.new ≡ self.old) }
     {
-        match entries.keeper() {
-            Keeper::Rows(rows) => self.add_rows(rows),
-            Keeper::Pairs(pairs) => self.add_pairs(pairs),
+        match entries.storage() {
+            Storage::Rows(rows) => self.add_rows(rows),
+            Storage::Pairs(pairs) => self.add_pairs(pairs),
         }
     }
 

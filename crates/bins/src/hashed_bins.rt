@@ -12,9 +12,9 @@ ghost use Rattle.bins.specs.Trees.{Locates, StandOnce};
 
 use crate::bins::Bins;
 use crate::counts::Counts;
-use crate::entry_view::EntryView;
 use crate::hashes::{HashedKey, Seed};
 use crate::index::Index;
+use crate::lent_entries::LentEntries;
 use crate::occupied::{Occupied, Occupies};
 use crate::opening::Opening;
 use crate::replacement::replace_rows;
@@ -222,8 +222,8 @@ impl Bins for HashedBins {
         }
     }
 
-    fn view(&self) -> EntryView<'_> {
-        EntryView::of_rows(&self.rows)
+    fn lend(&self) -> LentEntries<'_> {
+        LentEntries::of_rows(&self.rows)
     }
 
     fn count(&self) -> u64 {

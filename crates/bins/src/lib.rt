@@ -9,18 +9,18 @@
 //! A new key, `open`, `copy_into` and `entries` take memory; no other call of theirs does. If memory is refused, the
 //! entries are unchanged. No call waits.
 //!
-//! An `EntryView` lends the entries where they lie. Copies go into an `EntryList`. `SortedEntries` reads such a list in key
+//! `LentEntries` are entries where they lie. Copies go into an `EntryList`. `SortedEntries` reads such a list in key
 //! order, and `MergedEntries` reads one list or several as one.
 #![tactic(auto)]
 
 mod bins;
 mod counts;
 mod entry_list;
-mod entry_view;
 mod growth;
 mod hashed_bins;
 mod hashes;
 mod index;
+mod lent_entries;
 mod list_bins;
 mod merged_entries;
 mod occupied;
@@ -36,9 +36,9 @@ mod width_rows;
 pub use bins::Bins;
 pub use counts::Counts;
 pub use entry_list::EntryList;
-pub use entry_view::EntryView;
 pub use hashed_bins::HashedBins;
 pub use hashes::{HashedKey, Seed, hash_of};
+pub use lent_entries::LentEntries;
 pub use list_bins::ListBins;
 pub use merged_entries::{EntryPosition, MergedEntries};
 pub use occupied::{Occupied, Occupies};

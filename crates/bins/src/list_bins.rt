@@ -7,8 +7,8 @@ ghost use Rattle.bins.specs.Positions.{IsAt, IsGapFor};
 
 use crate::bins::Bins;
 use crate::counts::Counts;
-use crate::entry_view::EntryView;
 use crate::hashes::HashedKey;
+use crate::lent_entries::LentEntries;
 use crate::replacement::{count_of, replace_values};
 use bpf_model::{Key, NoMemory, Value};
 use std::alloc::Global;
@@ -115,8 +115,8 @@ impl Bins for ListBins {
         }
     }
 
-    fn view(&self) -> EntryView<'_> {
-        EntryView::of_pairs(&self.entries)
+    fn lend(&self) -> LentEntries<'_> {
+        LentEntries::of_pairs(&self.entries)
     }
 
     fn count(&self) -> u64 {

@@ -27,7 +27,7 @@ fn answers_with(
     ensures { IfOk result (λ answers. (early : List Entry) → IsGathered walk.now.kind walk.now.program.now walk.now.arg.now early gathered
         → IsAnswered walk.now.kind walk.now.program.now walk.now.arg.now (early ++ waiting.now) answers) }
 {
-    gathered.add(alloc, walk, &waiting.view())?;
+    gathered.add(alloc, walk, &waiting.lend())?;
     gathered.ordered(alloc, walk.kind)
 }
 

@@ -5,7 +5,7 @@ ghost use Rattle.bulk_walks.specs.Runs.{RunsSome, SeesStripe};
 use crate::part::{Gathered, Part};
 use crate::walk::Walk;
 use bin_stripes::Visitor;
-use bins::{EntryList, EntryView};
+use bins::{EntryList, LentEntries};
 use bpf_model::NoMemory;
 use std::alloc::Global;
 
@@ -34,7 +34,7 @@ impl<'w, 'a> Visitor for Finds<'w, 'a> {
 
     ghost visits = { SeesStripe };
 
-    fn visit(&mut self, entries: &EntryView<'_>) {
+    fn visit(&mut self, entries: &LentEntries<'_>) {
         self.outcome = self.take_in(entries);
     }
 }
@@ -68,7 +68,7 @@ impl<'w, 'a> Finds<'w, 'a> {
     }
 
     /// Runs the program on the entries of a held stripe, or copies them.
-    fn take_in(&mut self, entries: &EntryView<'_>) -> Result<(), NoMemory>
+    fn take_in(&mut self, entries: &LentEntries<'_>) -> Result<(), NoMemory>
         requires room { self.old.gathered.scanned + length self.old.waiting + 2 ^ 57 ≤ 2 ^ 64 }
         ensures walk { self.new.walk.now ≡ self.old.walk.now }
         ensures runs { OnOk result (RunsSome self.old.walk.now.kind self.old.walk.now.program.now self.old.walk.now.arg.now
@@ -92,7 +92,7 @@ impl<'w, 'a> Finds<'w, 'a> {
             return Ok(());
         }
         self.gathered
-            .add(self.alloc, self.walk, &self.waiting.view())?;
+            .add(self.alloc, self.walk, &self.waiting.lend())?;
         self.waiting = EntryList::new(self.alloc);
         Ok(())
     }

@@ -9,7 +9,7 @@ use crate::part::Gathered;
 use crate::running::run_on;
 use crate::walk::Walk;
 use atomic_methods::WalkKind;
-use bins::{EntryList, EntryView};
+use bins::{EntryList, LentEntries};
 use bpf_model::NoMemory;
 use std::alloc::Global;
 
@@ -29,7 +29,7 @@ impl Gathered {
         &mut self,
         alloc: Global,
         walk: &Walk<'_>,
-        entries: &EntryView<'_>,
+        entries: &LentEntries<'_>,
     ) -> Result<(), NoMemory>
         requires room { self.old.scanned + length entries.now < 2 ^ 64 }
         ensures gathered { OnOk result ((found : List Entry)

@@ -7,7 +7,7 @@ ghost use Rattle.bulk_walks.specs.Merges.{comes_first};
 
 use crate::walk::Walk;
 use atomic_methods::WalkKind;
-use bins::{EntryList, EntryView};
+use bins::{EntryList, LentEntries};
 use bpf_machine::{Machine, run_into};
 use bpf_model::limits::{KEY_BYTES, VALUE_BYTES};
 use bpf_model::{InputPart, Key, NoMemory, Value, fits_parts, value_bytes};
@@ -99,7 +99,7 @@ fn keep(items: &mut EntryList, most: usize, key: &[u8], answer: &[u8]) -> Result
 
 /// Runs the program on each entry in turn, and adds its answers with their keys to the items. Returns how many entries don't fit.
 fn add_all(
-    entries: &EntryView<'_>,
+    entries: &LentEntries<'_>,
     program: &Verified,
     arg: &Option<Value>,
     items: &mut EntryList,
@@ -131,7 +131,7 @@ struct First {
 impl First {
     /// Tests whether an answer at this key would be the first.
     #[inline(always)]
-    fn is_after(&self, entries: &EntryView<'_>, key: &[u8]) -> bool
+    fn is_after(&self, entries: &LentEntries<'_>, key: &[u8]) -> bool
         ensures { (answer : List ℕ) → result ≡ comes_first ((key.now, answer) ∷ []) (item_at entries.now self.now.position self.now.answer) }
     {
         match self.position {
@@ -141,7 +141,7 @@ impl First {
     }
 
     /// Tests whether its key comes before the first one of these items.
-    fn is_before(&self, entries: &EntryView<'_>, items: &EntryList) -> bool
+    fn is_before(&self, entries: &LentEntries<'_>, items: &EntryList) -> bool
         ensures { result ≡ comes_first (item_at entries.now self.now.position self.now.answer) items.now }
     {
         match self.position {
@@ -154,7 +154,7 @@ impl First {
 
 /// Finds the least key at which the program answers bytes, and that answer. On an entry whose key is not less than the best
 /// one so far it doesn't run. Returns how many entries don't fit, too.
-fn find_first(entries: &EntryView<'_>, program: &Verified, arg: &Option<Value>) -> (First, u64)
+fn find_first(entries: &LentEntries<'_>, program: &Verified, arg: &Option<Value>) -> (First, u64)
     ensures few { result.1 ≤ length entries.now }
     ensures first { FindsFirst program.now arg.now entries.now (item_at entries.now result.0.position result.0.answer) result.1 }
 {
@@ -180,7 +180,7 @@ fn find_first(entries: &EntryView<'_>, program: &Verified, arg: &Option<Value>) 
 }
 
 /// Returns a list of the item, or an empty one.
-fn item_of(alloc: Global, entries: &EntryView<'_>, first: &First) -> Result<EntryList, NoMemory>
+fn item_of(alloc: Global, entries: &LentEntries<'_>, first: &First) -> Result<EntryList, NoMemory>
     ensures { IfOk result (λ items. items ≡ item_at entries.now first.now.position first.now.answer) }
 {
     let mut items = EntryList::new(alloc);
@@ -194,7 +194,7 @@ fn item_of(alloc: Global, entries: &EntryView<'_>, first: &First) -> Result<Entr
 /// Returns how many entries don't fit.
 fn keep_first(
     alloc: Global,
-    entries: &EntryView<'_>,
+    entries: &LentEntries<'_>,
     program: &Verified,
     arg: &Option<Value>,
     items: &mut EntryList,
@@ -214,7 +214,7 @@ fn keep_first(
 pub(crate) fn run_on(
     alloc: Global,
     walk: &Walk<'_>,
-    entries: &EntryView<'_>,
+    entries: &LentEntries<'_>,
     items: &mut EntryList,
 ) -> Result<u64, NoMemory>
     ensures adds { IfOk result (λ unfit. AddsRuns walk.now.kind walk.now.program.now walk.now.arg.now entries.now items.old items.new unfit) }

@@ -11,7 +11,7 @@ use crate::noted_bins::NotedBins;
 use crate::notes::Notes;
 use crate::taken::Taken;
 use atomic_methods::{Call, HashedCall, Workspace};
-use bins::{Bins, Counts, EntryView, HashedKey, Occupied, Occupies, Opening};
+use bins::{Bins, Counts, HashedKey, LentEntries, Occupied, Occupies, Opening};
 use bpf_model::{NoMemory, Value};
 use std::alloc::Global;
 use timed_bins::{Expiry, TimedBins, TimedReply, Timing};
@@ -157,8 +157,8 @@ impl<T: TimedBins + Drop> Bins for Noted<T> {
         self.bins.discard(key);
     }
 
-    fn view(&self) -> EntryView<'_> {
-        self.bins.view()
+    fn lend(&self) -> LentEntries<'_> {
+        self.bins.lend()
     }
 
     fn count(&self) -> u64 {

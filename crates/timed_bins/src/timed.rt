@@ -15,7 +15,7 @@ use crate::stale::call_on_stale;
 use crate::timed_bins::TimedBins;
 use crate::timing::{DeadlineChange, Expiry, SetRule, TimedReply, Timing};
 use atomic_methods::{Call, HashedCall, ReplyKind, Workspace, apply_into};
-use bins::{Bins, Counts, EntryView, HashedKey, Occupied, Occupies, Opening, Seed};
+use bins::{Bins, Counts, HashedKey, LentEntries, Occupied, Occupies, Opening, Seed};
 use bpf_model::{NoMemory, Value};
 use std::alloc::Global;
 use std::marker::Model;
@@ -110,8 +110,8 @@ impl<B: Bins + Drop> Bins for Timed<B> {
         self.take(key);
     }
 
-    fn view(&self) -> EntryView<'_> {
-        self.bins.view()
+    fn lend(&self) -> LentEntries<'_> {
+        self.bins.lend()
     }
 
     fn count(&self) -> u64 {

@@ -6,4 +6,4 @@ pub returns-then-may_run_held-clause-runs : goal.returns-then-may_run_held-claus
 returns-then-may_run_held-clause-runs c =
     let old = c.args.self.now in
     on_ok_both c.add.result c.add.ensures.gathered c.add.ensures.scanned
-        (runs_held old.walk.now.kind old.walk.now.program.now old.walk.now.arg.now old.gathered c.add.new.self old.waiting c.args.entries.now (c.may_run_held.ensures.none c.if-may_run_held.true))
+    (runs_held old.walk.now.kind old.walk.now.program.now old.walk.now.arg.now old.gathered c.add.new.self old.waiting c.args.entries.now (c.may_run_held.ensures.none c.if-may_run_held.true))

@@ -1,7 +1,7 @@
 use Rattle.std.proofs.Common.{List, arith, length, ap}
 use Rattle.bins.specs.Table.{Entry}
 use Rattle.bins.proofs.CopyLemmas.{distinct_copies, distinct_many}
-use Rattle.bins.proofs.hashed_bins.HashedBinsBins.view.Goals as goal
+use Rattle.bins.proofs.hashed_bins.HashedBinsBins.lend.Goals as goal
 
 -- the entries of the table
 pub returns-clause-are : goal.returns-clause-are

@@ -1,6 +1,6 @@
 use Rattle.std.proofs.Common.{arith, sym, ◌∙◌}
 use Rattle.bins.proofs.PairedEntries.{paired-length}
-use Rattle.bins.proofs.entry_view.EntryView.of_rows.Goals as goal
+use Rattle.bins.proofs.lent_entries.LentEntries.of_rows.Goals as goal
 
 -- there are as many entries as keys
 pub invariant_of-result : goal.invariant_of-result

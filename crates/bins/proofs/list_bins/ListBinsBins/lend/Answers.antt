@@ -1,7 +1,7 @@
 use Rattle.std.proofs.Common.{List, arith, length, ap, ◌∙◌}
 use Rattle.bins.specs.Table.{Entry}
 use Rattle.bins.proofs.CopyLemmas.{sorted_copies, sorted_many}
-use Rattle.bins.proofs.list_bins.ListBinsBins.view.Goals as goal
+use Rattle.bins.proofs.list_bins.ListBinsBins.lend.Goals as goal
 
 -- the list's entries, which are the table's
 pub returns-clause-are : goal.returns-clause-are

@@ -1,6 +1,6 @@
-//! Views of entries, however they are kept.
+//! Entries that are lent where they lie, however they are stored.
 ghost use Rattle.std.specs.Prelude.{◌≡◌, ◌<◌, ◌≤◌, ◌^◌, ◌↔◌, length, IsTrue};
-ghost use Rattle.bins.specs.Views.{entries_kept, ArePaired};
+ghost use Rattle.bins.specs.Lent.{entries_stored, ArePaired};
 ghost use Rattle.bins.specs.Entries.{entry_of, entries_in};
 ghost use Rattle.bins.specs.Table.{Entry};
 
@@ -9,67 +9,67 @@ use bpf_model::limits::{KEY_BYTES, VALUE_BYTES};
 use bpf_model::{Key, Value};
 use std::marker::Model;
 
-/// What keeps the entries.
+/// What stores the entries.
 #[derive(Drop)]
-pub(crate) enum Keeper<'a> {
+pub(crate) enum Storage<'a> {
     // Each in a row.
     Rows(&'a Rows),
     // Each as a pair.
     Pairs(&'a [(Key, Value)]),
 }
 
-/// Entries that lie where they are kept, in an order that stays while they are viewed. None is copied.
+/// Entries that lie where they are kept, in an order that stays while they are lent. None is copied.
 #[derive(Drop)]
-pub struct EntryView<'a> {
-    keeper: Keeper<'a>,
+pub struct LentEntries<'a> {
+    storage: Storage<'a>,
     count: usize,
 }
 
-impl<'a> Model for EntryView<'a> {
+impl<'a> Model for LentEntries<'a> {
     ghost use Rattle.std.specs.Prelude.{◌≡◌, ◌<◌, ◌^◌, List, length};
     ghost use Rattle.bins.specs.Table.{Entry};
-    ghost use Rattle.bins.specs.Views.{entries_kept, ArePaired};
+    ghost use Rattle.bins.specs.Lent.{entries_stored, ArePaired};
 
     ghost Value = { List Entry };
 
-    ghost view = { λ view. entries_kept view.keeper };
+    ghost view = { λ lent. entries_stored lent.storage };
 
-    ghost invariant = { λ view. ArePaired view.keeper
-        × (view.count ≡ length (entries_kept view.keeper))
-        × (view.count < 2 ^ 57) };
+    ghost invariant = { λ lent. ArePaired lent.storage
+        × (lent.count ≡ length (entries_stored lent.storage))
+        × (lent.count < 2 ^ 57) };
 }
 
-impl<'a> EntryView<'a> {
-    /// Views the entries of these rows.
+impl<'a> LentEntries<'a> {
+    /// Lends the entries of these rows.
     #[inline(always)]
-    pub(crate) fn of_rows(rows: &'a Rows) -> EntryView<'a>
+    pub(crate) fn of_rows(rows: &'a Rows) -> LentEntries<'a>
         requires paired { length rows.now.keys ≡ length rows.now.values }
         ensures entries { result ≡ entries_in rows.now.keys rows.now.values }
         ensures few { length result < 2 ^ 57 }
     {
-        EntryView {
-            keeper: Keeper::Rows(rows),
+        LentEntries {
+            storage: Storage::Rows(rows),
             count: rows.len(),
         }
     }
 
-    /// Views these entries.
-    pub(crate) fn of_pairs(pairs: &'a [(Key, Value)]) -> EntryView<'a>
+    /// Lends these entries.
+    pub(crate) fn of_pairs(pairs: &'a [(Key, Value)]) -> LentEntries<'a>
         ensures entries { result ≡ pairs.now }
         ensures few { length result < 2 ^ 57 }
     {
-        EntryView {
-            keeper: Keeper::Pairs(pairs),
+        LentEntries {
+            storage: Storage::Pairs(pairs),
             count: pairs.len(),
         }
     }
 
-    /// Returns what keeps the entries.
-    pub(crate) fn keeper(&self) -> &Keeper<'a>
-        ensures entries { entries_kept result.now ≡ self.now }
+    /// Returns what stores the entries.
+    pub(crate) fn storage(&self) -> &Storage<'a>
+        ensures entries { entries_stored result.now ≡ self.now }
         ensures paired { ArePaired result.now }
     {
-        &self.keeper
+        &self.storage
     }
 
     /// Returns the number of entries. Takes no memory.
@@ -97,9 +97,9 @@ impl<'a> EntryView<'a> {
         ensures key { length result.0.now ≤ KEY_BYTES }
         ensures value { length result.1.now ≤ VALUE_BYTES }
     {
-        match &self.keeper {
-            Keeper::Rows(rows) => rows.get_any(position),
-            Keeper::Pairs(pairs) => pair_at(pairs, position),
+        match &self.storage {
+            Storage::Rows(rows) => rows.get_any(position),
+            Storage::Pairs(pairs) => pair_at(pairs, position),
         }
     }
 
