@@ -83,8 +83,8 @@ fn key_in_stripe(stripe: u64) -> Result<Key> {
     Ok(Key::from_slice(&[byte as u8])?)
 }
 
-/// Returns how far a worker is at this turn: each begins a quarter of the keys further on.
-fn step(worker: u64, turn: u64, count: u64) -> u64 {
+/// Returns a worker's place at this turn: each worker begins a quarter of the keys further on.
+fn place(worker: u64, turn: u64, count: u64) -> u64 {
     worker.wrapping_mul(count / 4).wrapping_add(turn)
 }
 
@@ -122,8 +122,8 @@ impl Keys {
     /// Returns the number of the key that the worker calls at this turn.
     fn number(self, worker: u64, turn: u64) -> u64 {
         match self {
-            Keys::Shared(count) => step(worker, turn, count) % count.max(1),
-            Keys::Scattered(count) => step(worker, turn, count).wrapping_mul(STEP) % count.max(1),
+            Keys::Shared(count) => place(worker, turn, count) % count.max(1),
+            Keys::Scattered(count) => place(worker, turn, count).wrapping_mul(STEP) % count.max(1),
             Keys::Own(_) => worker,
         }
     }

@@ -1,4 +1,6 @@
 //! What looks at the entries of a held stripe.
+ghost use Rattle.std.specs.Prelude.{◌<◌, ◌^◌, length};
+
 use bins::LentEntries;
 
 /// Looks at the entries of a stripe where they lie, while the stripe is held.
