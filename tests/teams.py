@@ -1,7 +1,6 @@
 #!/usr/bin/env python3
 """Which threads of mapd walk. A ForEach with a long program goes over many entries: with a team of four, four threads work on it, and with
-a team of one, or below the walk's threshold, one. The system's counts of processor time say which threads worked. Such a program
-doesn't run while a stripe is held: the server tells of no hold that is nearly as long as that would take.
+a team of one, or below the walk's threshold, one. The system's counts of processor time say which threads worked.
 
 By hand, after `rt run` in crates/mapd: python3 tests/teams.py. Another program is tried by --program."""
 from __future__ import annotations
@@ -13,7 +12,6 @@ from pathlib import Path
 
 sys.path.insert(0, str(Path(__file__).resolve().parent))
 sys.dont_write_bytecode = True
-import metrics  # noqa: E402
 import wire  # noqa: E402
 
 # A program of 4,094 units, most of them divisions, which answers nothing.
@@ -22,9 +20,6 @@ SIZES = (64, 1024, 8, 8)
 ENTRIES = 40_000
 PIECE = 4_000
 FOR_EACH = 0x21
-STRIPES = 4
-# A third of the microseconds or less that the program takes on a stripe's entries: no stripe is held for so long.
-HOLD = 100_000
 # A thread worked if it used at least this many ticks of the system's clock, of which a second has a hundred.
 TICKS = 3
 
@@ -68,19 +63,14 @@ def for_each(number: int, threshold: int) -> bytes:
 
 def try_team(program: Path, team: int) -> None:
     """Walks with a team of this many, and counts who worked."""
-    options = ("--workers", "1", "--team", str(team), "--stripes", str(STRIPES))
-    with metrics.started(program, *options) as ports, wire.opened(ports.frames, 2) as client:
+    with wire.started(program, "--workers", "1", "--team", str(team)) as server, wire.opened(server.address, 2) as client:
         number = int.from_bytes(client.ask(wire.register(SIZES, LONG))[1:], "big")
         put_all(client)
         # from the first entry on, once a worker has found that many itself, or once all have
         for threshold, wanted in ((1, team), (ENTRIES // 8, team), (ENTRIES // 2, team), (ENTRIES + 1, 1)):
-            found = threads_that_work(ports.server, client, for_each(number, threshold))
+            found = threads_that_work(server, client, for_each(number, threshold))
             wire.same(f"how many of a team of {team} walk over {ENTRIES} entries with threshold {threshold}", found, wanted)
             print(f"teams: with a team of {team} and threshold {threshold}, {found} walk over {ENTRIES} entries")
-        held = metrics.told(ports.metrics)["mapd_longest_hold_microseconds"]
-        if held >= HOLD:
-            raise wire.Wrong(f"a walk by a long program held a stripe for {held} microseconds")
-        print(f"teams: no stripe was held for more than {held} microseconds")
 
 
 def main() -> None:
