@@ -31,9 +31,9 @@ SHAPES = [(8, 8, 200_000, 80), (16, 24, 150_000, 112), (16, 100, 100_000, 200), 
           (64, 1024, 20_000, 1_300)]
 # At least this many entries of 8 and 8 bytes fit in a GiB of address space, and of this many some are refused.
 ROOMY, CROWDED, GIBIBYTE_KIB = 600_000, 1_400_000, 1 << 20
-# Walks over this many entries that answer nothing need at most this many MiB at once, whether a program is so short that it runs on
-# entries where they lie, or longer; the entries take some 35.
-WALKED, WALK_MIB = 200_000, 8
+# Walks over this many entries that answer nothing need at most this many MiB at once, if a program is so short that it runs on entries
+# where they lie, or longer; the entries take some 35.
+WALKED, IN_PLACE_MIB, COPIED_MIB = 200_000, 1, 8
 SHORT = bytes.fromhex("b7000000ffffffff 9500000000000000")
 LONG = bytes.fromhex("b700000000000000") * 63 + SHORT
 # How many keys of each kind are put and read.
@@ -143,11 +143,11 @@ def try_walks(program: Path) -> None:
     """Walks that answer nothing, and run their program in the workers, copy no entry, or with a longer program a few at a time."""
     with Session(program) as session:
         session.put(range(WALKED), 16, 100)
-        for number, (what, sent) in enumerate([("short", SHORT), ("long", LONG)]):
+        for number, (what, sent, bound) in enumerate([("short", SHORT, IN_PLACE_MIB), ("long", LONG, COPIED_MIB)]):
             if session.client.ask(wire.register((64, 256, 0, 0), sent)) != b"\x81" + wire.number_field(number):
                 raise wire.Wrong(f"the {what} program that answers nothing is refused")
             took = session.more_at_once([wire.walk(SEARCH, number, None), wire.walk(FOR_EACH, number, None)])
-            most(f"MiB more at once for walks over {WALKED} entries by a {what} program that answers nothing", took / MEBIBYTE, WALK_MIB)
+            most(f"MiB more at once for walks over {WALKED} entries by a {what} program that answers nothing", took / MEBIBYTE, bound)
 
 
 def instructions(program: Path, bodies: Iterable[bytes]) -> int:
