@@ -30,15 +30,9 @@ Sends old new (sent.Took n) bytes =
 Sends old new sent.NotNow bytes = IsKept old new
 Sends old new sent.Failed bytes = IsKept old new
 
--- bytes that a connection has not taken yet, and how many writes of more failed
-pub record OwedState : Type 0 where
-  pub rest : List ℕ
-  pub failures : ℕ
-
 -- the connection took a front of the bytes owed to it
-pub record TakesOwed (old new : ChannelState) (owed left : OwedState) : Type 0 where
+pub record TakesOwed (old new : ChannelState) (owed left : List ℕ) : Type 0 where
   pub front : List ℕ
-  pub parts : owed.rest ≡ front ++ left.rest
+  pub parts : owed ≡ front ++ left
   pub taken : Appends old.held new.held front
   pub unread : Keeps old.left new.left
-  pub failures : left.failures ≡ owed.failures

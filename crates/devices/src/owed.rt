@@ -1,32 +1,27 @@
 //! Bytes that a connection has not taken yet.
-ghost use Rattle.std.specs.Prelude.{◌≡◌, ◌≤◌, ◌<◌, ℕ, [], length, Some, false};
+ghost use Rattle.std.specs.Prelude.{◌≡◌, ◌≤◌, ◌<◌, ℕ, [], ◌++◌, length, OnOk, OnErr};
 ghost use Rattle.devices.specs.Channels.{TakesOwed};
 
 use crate::channel::{Channel, Sent};
-use crate::failed::Failed;
-use crate::sink::Sink;
-use std::alloc::Global;
+use std::alloc::{AllocError, Global};
 use std::marker::Model;
 
 /// If nothing is owed, at most this much room is kept for later.
 const KEPT_BYTES: usize = 1024;
 
-/// Bytes that a connection has not taken yet, as a sink. A write fails if a request for memory is refused, and then keeps none of
-/// its bytes.
+/// Bytes that a connection has not taken yet.
 #[derive(Drop)]
 pub struct Owed {
     bytes: Vec<u8>,
     taken: usize,
-    failures: u64,
 }
 
 impl Model for Owed {
-    ghost use Rattle.std.specs.Prelude.{◌≤◌, length, drop};
-    ghost use Rattle.devices.specs.Channels.{OwedState};
+    ghost use Rattle.std.specs.Prelude.{ℕ, List, ◌≤◌, length, drop};
 
-    ghost Value = { OwedState };
+    ghost Value = { List ℕ };
 
-    ghost view = { λ o. record { rest = drop o.taken o.bytes.items; failures = o.failures } };
+    ghost view = { λ o. drop o.taken o.bytes.items };
 
     ghost invariant = { λ o. o.taken ≤ length o.bytes.items };
 }
@@ -36,6 +31,8 @@ impl Model for Owed {
 pub enum Taking {
     /// All of it.
     All,
+    /// A part, and the connection may take more now.
+    More,
     /// The connection takes no more now.
     NotNow,
     /// The connection failed.
@@ -45,27 +42,49 @@ pub enum Taking {
 impl Owed {
     /// Owes nothing. Takes no memory.
     pub fn new(alloc: Global) -> Owed
-        ensures { result ≡ record { rest = []; failures = 0 } }
+        ensures { result ≡ [] }
     {
         Owed {
             bytes: Vec::new(alloc),
             taken: 0,
-            failures: 0,
         }
     }
 
     /// Returns how many bytes are owed.
     pub fn len(&self) -> usize
-        ensures { result ≡ length self.now.rest }
+        ensures { result ≡ length self.now }
     {
         self.bytes.len() - self.taken
     }
 
+    /// Owes these bytes after all others. If a request for memory is refused, none of them is owed.
+    pub fn append(&mut self, bytes: &[u8]) -> Result<(), AllocError>
+        ensures ok { OnOk result (self.new ≡ self.old ++ bytes.now) }
+        ensures err { OnErr result (self.new ≡ self.old) }
+    {
+        self.bytes.extend_from_slice(bytes)
+    }
+
+    /// Owes the bytes of both parts, one after the other. If a request for memory is refused, none of them is owed.
+    pub fn append_both(&mut self, first: &[u8], second: &[u8]) -> Result<(), AllocError>
+        ensures ok { OnOk result (self.new ≡ self.old ++ (first.now ++ second.now)) }
+        ensures err { OnErr result (self.new ≡ self.old) }
+    {
+        self.bytes.reserve(first.len() + second.len())?;
+        let Ok(()) = self.bytes.extend_from_slice(first) else {
+            unreachable!()
+        };
+        let Ok(()) = self.bytes.extend_from_slice(second) else {
+            unreachable!()
+        };
+        Ok(())
+    }
+
     /// Sends once from the owed bytes.
     fn send_front<C: Channel>(&mut self, channel: &mut C) -> Sent
-        requires { 1 ≤ length self.old.rest }
+        requires { 1 ≤ length self.old }
         ensures taken { TakesOwed (C.state channel.old) (C.state channel.new) self.old self.new }
-        ensures shorter { (n : ℕ) → result ≡ Sent.Took n → length self.new.rest < length self.old.rest }
+        ensures shorter { (n : ℕ) → result ≡ Sent.Took n → length self.new < length self.old }
     {
         let sent = channel.send(&self.bytes[self.taken..]);
         if let Sent::Took(n) = sent {
@@ -74,11 +93,11 @@ impl Owed {
         sent
     }
 
-    /// Sends the owed bytes, as many as the connection takes now.
+    /// Sends the owed bytes, as many as the connection takes now. Never returns `More`.
     #[tactic(auto, using(crate::proofs::ChannelLemmas::takes_none, crate::proofs::ChannelLemmas::takes_both))]
     pub fn send_to<C: Channel>(&mut self, channel: &mut C) -> Taking
         ensures taken { TakesOwed (C.state channel.old) (C.state channel.new) self.old self.new }
-        ensures all { result ≡ Taking.All → self.new.rest ≡ [] }
+        ensures all { result ≡ Taking.All → self.new ≡ [] }
     {
         while self.len() > 0 {
             match self.send_front(channel) {
@@ -90,7 +109,18 @@ impl Owed {
         Taking::All
     }
 
-    /// If nothing is owed, drops the bytes that were taken, and frees the room beyond what is kept for later.
+    /// If nothing is owed, forgets the bytes that were taken, and keeps their room.
+    pub fn rewind(&mut self)
+        ensures { self.new ≡ self.old }
+    {
+        if self.len() > 0 {
+            return;
+        }
+        self.bytes.clear();
+        self.taken = 0;
+    }
+
+    /// If nothing is owed, forgets the bytes that were taken, and frees the room beyond what is kept for later.
     pub fn settle(&mut self, alloc: Global)
         ensures { self.new ≡ self.old }
     {
@@ -103,23 +133,5 @@ impl Owed {
             self.bytes.clear();
         }
         self.taken = 0;
-    }
-}
-
-impl Sink for Owed {
-    ghost state = { λ o. record { held = Some o.rest; keeps_back = false; failures = o.failures } };
-
-    fn write(&mut self, bytes: &[u8]) -> Result<usize, Failed> {
-        match self.bytes.extend_from_slice(bytes) {
-            Ok(()) => Ok(bytes.len()),
-            Err(_) => {
-                self.failures += 1;
-                Err(Failed)
-            }
-        }
-    }
-
-    fn flush(&mut self) -> Result<(), Failed> {
-        Ok(())
     }
 }

@@ -17,5 +17,4 @@ returns-in-Took-clause-taken g c =
       parts = parts_at inside.bytes.items inside.taken n;
       taken = subst (λ (l : List ℕ). Appends (g.C.Channel.state c.args.channel.now).held (g.C.Channel.state c.send-sent.new.self).held (take n l)) is taken;
       unread = unread;
-      failures = refl;
     }

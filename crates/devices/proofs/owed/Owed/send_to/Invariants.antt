@@ -7,4 +7,4 @@ abbrev pub invariant-loop-self : goal.invariant-loop-self
 invariant-loop-self g l = TakesOwed (g.C.Channel.state l.fn.channel) (g.C.Channel.state l.channel) l.fn.self l.self
 
 abbrev pub decreases-loop-self : goal.decreases-loop-self
-decreases-loop-self g l = length l.self.rest
+decreases-loop-self g l = length l.self
