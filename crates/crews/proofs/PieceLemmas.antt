@@ -6,8 +6,7 @@ use Rattle.client_protocol.specs.declared.fault.ProtocolFault.{ProtocolFault}
 use Rattle.client_protocol.specs.Faults.{protocol_fault_number}
 use Rattle.client_protocol.specs.Frames.{Held, held_fault}
 use Rattle.client_protocol.specs.Frames.Held.{open_at, failed}
-use Rattle.devices.specs.Channels.{OwedState}
-use Rattle.devices.specs.Devices.{SinkState, TakesBytes, TakesFront, TakesPart, TakesThenFails}
+use Rattle.devices.specs.Devices.{TakesBytes, TakesFront, TakesPart, TakesThenFails}
 use Rattle.redis_service.specs.Lines.{no_memory_line}
 use Rattle.redis_service.specs.Talks as redis
 use Rattle.redis_service.specs.Talks.{TalkState, begun}
@@ -15,6 +14,7 @@ use Rattle.redis_service.specs.declared.desk.TalkEnd.{TalkEnd}
 use Rattle.redis_service.specs.declared.desk.TalkEnd.TheVariants as talk_end
 use Rattle.sessions.specs.Answering.{IsFront}
 use Rattle.sessions.specs.Conversations.{AnswersPiece, BreaksPiece, Exchange}
+use Rattle.sessions.specs.OwedAnswers.{OwedState, sink_of}
 use Rattle.sessions.specs.Sessions.{refusal}
 use Rattle.sessions.specs.declared.session.SessionEnd.{SessionEnd}
 use Rattle.sessions.specs.declared.session.SessionEnd.TheVariants as session
@@ -62,10 +62,6 @@ failed_of (failed other) fault is = cc
 
 numbers_of : (old new : Station) → SameNumbers old new → KeepsNumbers (known old) (known new)
 numbers_of old new same = record { map_is = same.map; pass = same.pass; team = same.team }
-
--- what a sink tells that keeps what a connection is owed
-abbrev pub sink_of : OwedState → SinkState
-sink_of owed = record { held = Some owed.rest; keeps_back = false; failures = owed.failures }
 
 -- a refusal was written there, or a front of it
 pub refusal_told : (number : ℕ) (end result : SessionEnd) (a b : OwedState) → (result ≡ end) ⊎ (result ≡ session.WriteFailed) → (result ≡ end → TakesBytes (sink_of a) (sink_of b) (refusal number))

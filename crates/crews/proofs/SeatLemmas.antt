@@ -5,7 +5,8 @@ use Rattle.std.proofs.KnownBytes.{Appends-nil, Appends-kept, Appends-trans, Cons
 use Rattle.std.specs.Io.KnownBytes.{Appends, Consumes, Keeps}
 use Rattle.bin_stripes.specs.Passes.{PassState, ServesSameMap}
 use Rattle.slab.specs.Slab.{Slab, get, Updates}
-use Rattle.devices.specs.Channels.{ChannelState, OwedState, Sends}
+use Rattle.devices.specs.Channels.{ChannelState, Sends}
+use Rattle.sessions.specs.OwedAnswers.{OwedState}
 use Rattle.devices.specs.declared.channel.Sent.{Sent}
 use Rattle.devices.specs.declared.channel.Sent.TheVariants.{Took, NotNow, Failed}
 use Rattle.sessions.specs.Conversations.{Exchange}

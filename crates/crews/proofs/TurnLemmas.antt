@@ -4,8 +4,9 @@ use Rattle.std.specs.Io.KnownBytes.{Consumes, Keeps}
 use Rattle.std.proofs.KnownBytes.{Appends-trans, Appends-kept, Consumes-trans, Consumes-kept}
 use Rattle.client_protocol.specs.Faults.{protocol_fault_number}
 use Rattle.program_registry.specs.declared.registry.Registry.{Registry}
-use Rattle.devices.specs.Channels.{ChannelState, OwedState, TakesOwed, IsKept}
+use Rattle.devices.specs.Channels.{ChannelState, TakesOwed, IsKept}
 use Rattle.sessions.specs.Conversations.{Exchange}
+use Rattle.sessions.specs.OwedAnswers.{OwedState}
 use Rattle.sessions.specs.Sessions.{refusal}
 use Rattle.sessions.specs.declared.session.SessionEnd.TheVariants as session
 use Rattle.crews.specs.declared.clients.Parting.{Parting}
@@ -58,9 +59,8 @@ module _ (password : Option (List ℕ)) where
   cut_front protocol exchanges read written rest (whole, owes, front) = (whole, owes, front_of_front written rest whole front)
 
   -- nothing is owed
-  pub none_owed : (protocol : Protocol) (parting : Parting) (exchanges : List (Exchange Station)) (read written rest : List ℕ) → length rest ≡ 0 → PartsSo password protocol parting exchanges read (written ++ rest) → PartsSo password protocol parting exchanges read written
-  none_owed protocol parting exchanges read written [] none parts = subst (λ (t : List ℕ). PartsSo password protocol parting exchanges read t) (append-nil written) parts
-  none_owed protocol parting exchanges read written (b ∷ rest) none parts = absurd cc
+  pub none_owed : (protocol : Protocol) (parting : Parting) (exchanges : List (Exchange Station)) (read written rest : List ℕ) → rest ≡ [] → PartsSo password protocol parting exchanges read (written ++ rest) → PartsSo password protocol parting exchanges read written
+  none_owed protocol parting exchanges read written rest none parts = subst (λ (t : List ℕ). PartsSo password protocol parting exchanges read t) (ap (λ (t : List ℕ). written ++ t) none ∙ append-nil written) parts
 
 -- ---- how it stands after a turn
 
@@ -119,8 +119,8 @@ module _ {C : Type 0} (state : C → ChannelState) (registry : Registry) (passwo
 
   -- what is owed was taken, or a front of it
   pub stands_told : (came : Arrival C) (now next : C) (exchanges : List (Exchange Station)) (tokens : KeptTokens) (talk : Talk) (owed left : OwedState) (leaving : Option Parting)
-      → TakesOwed (state now) (state next) owed left → Stands state registry password came now exchanges tokens talk owed leaving → Stands state registry password came next exchanges tokens talk left leaving
-  stands_told came now next exchanges tokens talk owed left leaving takes stands = record {
+      → TakesOwed (state now) (state next) owed.rest left.rest → left.failures ≡ owed.failures → Stands state registry password came now exchanges tokens talk owed leaving → Stands state registry password came next exchanges tokens talk left leaving
+  stands_told came now next exchanges tokens talk owed left leaving takes failures stands = record {
     speaks = stands.speaks;
     read = stands.read;
     written = stands.written ++ takes.front;
@@ -130,7 +130,7 @@ module _ {C : Type 0} (state : C → ChannelState) (registry : Registry) (passwo
     keeps = stands.keeps;
     says = subst (λ (t : List ℕ). SaysSo password leaving talk exchanges stands.read t)
         (ap (λ (t : List ℕ). stands.written ++ t) takes.parts ∙ sym (append_assoc stands.written takes.front left.rest)) stands.says;
-    unfailed = λ none. takes.failures ∙ stands.unfailed none;
+    unfailed = λ none. failures ∙ stands.unfailed none;
   }
 
   -- it leaves, whatever it is owed

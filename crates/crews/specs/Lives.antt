@@ -3,9 +3,10 @@ use Rattle.std.specs.Prelude.{◌≡◌, ◌==◌, ℕ, ◌<◌, ◌≤◌, List
 use Rattle.std.specs.Io.KnownBytes.{Appends, Consumes}
 use Rattle.bin_stripes.specs.Passes.{PassState}
 use Rattle.program_registry.specs.declared.registry.Registry.{Registry}
-use Rattle.devices.specs.Channels.{ChannelState, OwedState}
+use Rattle.devices.specs.Channels.{ChannelState}
 use Rattle.redis_service.specs.Sweeps.{Sweeps}
 use Rattle.sessions.specs.Conversations.{Exchange}
+use Rattle.sessions.specs.OwedAnswers.{OwedState}
 use Rattle.crews.specs.declared.clients.Parting.{Parting}
 use Rattle.crews.specs.declared.clients.Protocol.{Protocol}
 use Rattle.crews.specs.declared.crew.Crew.{Crew}

@@ -2,12 +2,13 @@
 use Rattle.std.specs.Prelude.{◌≡◌, ◌⊎◌, ℕ, List, [], ◌∷◌, ◌++◌, Option, Some}
 use Rattle.client_protocol.specs.Faults.{protocol_fault_number}
 use Rattle.program_registry.specs.declared.registry.Registry.{Registry}
-use Rattle.devices.specs.Channels.{ChannelState, OwedState}
+use Rattle.devices.specs.Channels.{ChannelState}
 use Rattle.redis_service.specs.Lines.{no_memory_line}
 use Rattle.redis_service.specs.declared.desk.TalkEnd.{TalkEnd}
 use Rattle.redis_service.specs.declared.desk.TalkEnd.TheVariants as talk_end
 use Rattle.sessions.specs.Answering.{IsFront}
 use Rattle.sessions.specs.Conversations.{Exchange}
+use Rattle.sessions.specs.OwedAnswers.{OwedState}
 use Rattle.sessions.specs.Sessions.{refusal}
 use Rattle.sessions.specs.declared.session.SessionEnd.{SessionEnd}
 use Rattle.sessions.specs.declared.session.SessionEnd.TheVariants as session

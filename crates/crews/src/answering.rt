@@ -20,10 +20,10 @@ use crate::worker::Worker;
 use bin_stripes::Gate;
 use bpf_model::{NoMemory, Value};
 use client_protocol::{Feeder, Request};
-use devices::{Failed, Owed, write_all};
+use devices::{Failed, write_all};
 use redis_service::{Moment, NO_MEMORY_LINE, RedisDesk, RedisTalk, TalkEnd};
 use server_state::WorkerCounts;
-use sessions::{Conversation, ConversationEnd, SessionEnd, refuse};
+use sessions::{Conversation, ConversationEnd, OwedAnswers, SessionEnd, WhenTaken, refuse};
 use std::sync::Wait;
 use std::thread::Threads;
 
@@ -58,7 +58,7 @@ impl<'a, 'r> Room<'a, 'r> {
 }
 
 /// Owes a refusal at the end of a conversation, and answers how the client leaves then.
-fn refusal_owed(owed: &mut Owed, number: u8, end: SessionEnd) -> Option<Parting>
+fn refusal_owed(owed: &mut OwedAnswers, number: u8, end: SessionEnd) -> Option<Parting>
     requires count { owed.old.failures ≡ 0 }
     requires end { end ≢ SessionEnd.WriteFailed }
     ensures { TellsLast (refusal number) end result owed.old.rest owed.new.rest }
@@ -67,7 +67,7 @@ fn refusal_owed(owed: &mut Owed, number: u8, end: SessionEnd) -> Option<Parting>
 }
 
 /// How a client leaves when its conversation took a piece so; what it is owed then has grown by the refusal that this asks for.
-fn leaving_after(owed: &mut Owed, taken: Result<(), ConversationEnd>) -> Option<Parting>
+fn leaving_after(owed: &mut OwedAnswers, taken: Result<(), ConversationEnd>) -> Option<Parting>
     requires { taken ≢ Err ConversationEnd.WriteFailed → owed.old.failures ≡ 0 }
     ensures { MatchResult taken (λ _. (result ≡ None) × (owed.new ≡ owed.old)) (λ end. LeavesAt end result owed.old.rest owed.new.rest) }
 {
@@ -84,7 +84,7 @@ fn leaving_after(owed: &mut Owed, taken: Result<(), ConversationEnd>) -> Option<
 }
 
 /// Owes the line that says that memory was refused, and answers how the client leaves then.
-fn no_memory_owed(owed: &mut Owed) -> Option<Parting>
+fn no_memory_owed(owed: &mut OwedAnswers) -> Option<Parting>
     requires count { owed.old.failures ≡ 0 }
     ensures { TellsLast no_memory_line SessionEnd.NoMemory result owed.old.rest owed.new.rest }
 {
@@ -95,7 +95,7 @@ fn no_memory_owed(owed: &mut Owed) -> Option<Parting>
 }
 
 /// How a client leaves when its talk took a piece so; what it is owed then has grown by the line that this asks for.
-fn leaving_talk(owed: &mut Owed, taken: Result<(), TalkEnd>) -> Option<Parting>
+fn leaving_talk(owed: &mut OwedAnswers, taken: Result<(), TalkEnd>) -> Option<Parting>
     requires { taken ≢ Err TalkEnd.WriteFailed → owed.old.failures ≡ 0 }
     ensures { MatchResult taken (λ _. (result ≡ None) × (owed.new ≡ owed.old)) (λ end. LeavesTalk end result owed.old.rest owed.new.rest) }
 {
@@ -115,7 +115,7 @@ pub fn answer_frames<'a, 'r, H: Threads + Wait + Sync, G: Gate + Sync>(
     count: usize,
     feeder: &mut Feeder,
     tokens: &mut Tokens<'a>,
-    owed: &mut Owed,
+    owed: &mut OwedAnswers,
 ) -> Option<Parting>
     requires unfailed { owed.old.failures ≡ 0 }
     requires some { 1 ≤ count }
@@ -136,7 +136,7 @@ pub fn answer_frames<'a, 'r, H: Threads + Wait + Sync, G: Gate + Sync>(
     };
     room.serving.lend(tokens);
     room.conversation.resume(feeder);
-    let taken = room.conversation.take(
+    let taken = room.conversation.take::<_, _, _, WhenTaken>(
         worker.alloc,
         &mut room.serving,
         &answer,
@@ -155,7 +155,7 @@ pub fn answer_commands<'a, 'r, H: Wait>(
     room: &mut Room<'a, 'r>,
     count: usize,
     talk: &mut RedisTalk<'_>,
-    owed: &mut Owed,
+    owed: &mut OwedAnswers,
 ) -> Option<Parting>
     requires unfailed { owed.old.failures ≡ 0 }
     requires some { 1 ≤ count }

@@ -203,9 +203,9 @@ impl<'a, 'r, C: Channel + Drop> Attendant<'a, 'r, C> {
             client.part(clients, self.room.serving.pass(), seat);
             return;
         }
-        client.let_go(self.alloc);
+        let standing = client.let_go(self.alloc);
         self.room.counts.count_kept(before, client.bytes());
-        self.go_on(clients, seat, client, Standing::Waits);
+        self.go_on(clients, seat, client, standing);
     }
 
     /// The client of this seat, if there is one, is let go at once.

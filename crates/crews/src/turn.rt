@@ -1,5 +1,5 @@
 //! One of many clients between its turns, and what a turn makes of it.
-ghost use Rattle.std.specs.Prelude.{◌≡◌, ◌≤◌, ℕ, List, [], ◌++◌, length, take, Option, None, Some};
+ghost use Rattle.std.specs.Prelude.{◌≡◌, ◌≤◌, ℕ, List, [], ◌++◌, length, take, Option, None, Some, IsTrue};
 ghost use Rattle.program_registry.specs.declared.registry.Registry.{Registry as TheRegistry};
 ghost use Rattle.sessions.specs.Conversations.{Exchange as TheExchange};
 ghost use Rattle.crews.specs.declared.talk.Talk.{Talk as TheTalk};
@@ -17,8 +17,8 @@ use crate::talk::Talk;
 use crate::tokens::Tokens;
 use crate::worker::Worker;
 use bin_stripes::{Gate, Pass};
-use devices::{Channel, Owed, Received, Taking};
-use sessions::SessionEnd;
+use devices::{Channel, Received, Taking};
+use sessions::{OwedAnswers, SessionEnd};
 use std::alloc::Global;
 use std::sync::Wait;
 use std::thread::Threads;
@@ -37,7 +37,7 @@ pub struct Client<'a, C> {
     pub channel: C,
     pub talk: Talk<'a>,
     pub tokens: Tokens<'a>,
-    pub owed: Owed,
+    pub owed: OwedAnswers,
     pub leaving: Option<Parting>,
 }
 
@@ -60,15 +60,15 @@ fn time_of<C: Channel, P: Clients<C>>(clients: &mut P, talk: &Talk<'_>) -> u64
     }
 }
 
-/// How a client left that is given up now, when it is still owed this number of bytes.
-fn parting_of(leaving: Option<Parting>, owed: usize) -> Parting
-    ensures { (password : Option (List ℕ)) (talk : TheTalk) (exchanges : List (TheExchange Station)) (read written rest : List ℕ) → length rest ≡ owed
+/// How a client left that is given up now, when all that it was owed is sent, or not.
+fn parting_of(leaving: Option<Parting>, is_sent: bool) -> Parting
+    ensures { (password : Option (List ℕ)) (talk : TheTalk) (exchanges : List (TheExchange Station)) (read written rest : List ℕ) → (IsTrue is_sent → rest ≡ [])
         → SaysSo password leaving talk exchanges read (written ++ rest) → PartsSo password (protocol_of talk) result exchanges read written }
 {
     match leaving {
         Some(Parting::Ended(SessionEnd::WriteFailed)) => Parting::Ended(SessionEnd::WriteFailed),
-        Some(Parting::Ended(end)) if owed == 0 => Parting::Ended(end),
-        Some(Parting::Over) if owed == 0 => Parting::Over,
+        Some(Parting::Ended(end)) if is_sent => Parting::Ended(end),
+        Some(Parting::Over) if is_sent => Parting::Over,
         _ => Parting::LetGo,
     }
 }
@@ -96,7 +96,7 @@ impl<'a, C: Channel> Client<'a, C> {
             channel,
             talk,
             tokens,
-            owed: Owed::new(alloc),
+            owed: OwedAnswers::new(alloc),
             leaving: None,
         }
     }
@@ -104,7 +104,7 @@ impl<'a, C: Channel> Client<'a, C> {
     /// Returns how many bytes are kept for the client, about: for what was read of it, for its tokens, and what it is owed.
     pub fn bytes(&self) -> u64 {
         let kept = self.talk.bytes().saturating_add(self.tokens.bytes());
-        let owed = self.owed.len().saturating_add(CLIENT_BYTES);
+        let owed = self.owed.bytes().saturating_add(CLIENT_BYTES);
         kept.saturating_add(owed) as u64
     }
 
@@ -144,16 +144,19 @@ impl<'a, C: Channel> Client<'a, C> {
 
     /// Whether the client is owed so much that it is not read.
     fn is_held_back(&self) -> bool {
-        self.owed.len() > OWED_BYTES
+        self.owed.has_reply() || self.owed.bytes() > OWED_BYTES
     }
 
-    /// How the client stands after a turn in which it was read so. One that was held back and is not any more was not read: what it
-    /// sent meanwhile is there, and the system has told of it.
-    fn standing_after(&self, was_held_back: bool, standing: Standing) -> Standing {
+    /// How the client stands after a turn in which it was read so, and was sent more. One that was held back and is not any more was
+    /// not read: what it sent meanwhile is there, and the system has told of it.
+    fn standing_after(&self, was_held_back: bool, read: Standing, sent: Standing) -> Standing {
         if was_held_back && !self.is_held_back() {
             return Standing::Again;
         }
-        standing
+        match read {
+            Standing::Again => Standing::Again,
+            Standing::Waits => sent,
+        }
     }
 
     /// Reads one piece and answers it, if the client is to be read now. Its commands are made at a time that is told after it is read:
@@ -200,8 +203,8 @@ impl<'a, C: Channel> Client<'a, C> {
         }
     }
 
-    /// Sends what is owed, as far as the connection takes it now.
-    fn tell(&mut self, alloc: Global)
+    /// Sends what is owed, as far as the connection takes it now, and of a long reply a part.
+    fn tell(&mut self, alloc: Global) -> Standing
         ensures number { self.new.number ≡ self.old.number }
         ensures stands { (registry : TheRegistry) (password : Option (List ℕ)) (came : Arrival C) (exchanges : List (TheExchange Station))
             → Stands C.state registry password came self.old.channel exchanges self.old.tokens self.old.talk self.old.owed self.old.leaving
@@ -209,8 +212,13 @@ impl<'a, C: Channel> Client<'a, C> {
     {
         let taking = self.owed.send_to(&mut self.channel);
         self.owed.settle(alloc);
-        if let Taking::Failed = taking {
-            self.leaving = Some(Parting::Ended(SessionEnd::WriteFailed));
+        match taking {
+            Taking::All | Taking::NotNow => Standing::Waits,
+            Taking::More => Standing::Again,
+            Taking::Failed => {
+                self.leaving = Some(Parting::Ended(SessionEnd::WriteFailed));
+                Standing::Waits
+            }
         }
     }
 
@@ -233,13 +241,13 @@ impl<'a, C: Channel> Client<'a, C> {
             self.new.tokens self.new.talk self.new.owed self.new.leaving }
     {
         let was_held_back = self.is_held_back();
-        let standing = self.hear(worker, room, clients);
-        self.tell(worker.alloc);
-        self.standing_after(was_held_back, standing)
+        let read = self.hear(worker, room, clients);
+        let sent = self.tell(worker.alloc);
+        self.standing_after(was_held_back, read, sent)
     }
 
-    /// The client is not read any more. Sends what it is owed, as far as the connection takes it now.
-    pub fn let_go(&mut self, alloc: Global)
+    /// The client is not read any more. Sends what it is owed, as far as the connection takes it now, and of a long reply a part.
+    pub fn let_go(&mut self, alloc: Global) -> Standing
         ensures number { self.new.number ≡ self.old.number }
         ensures stands { (registry : TheRegistry) (password : Option (List ℕ)) (came : Arrival C) (exchanges : List (TheExchange Station))
             → Stands C.state registry password came self.old.channel exchanges self.old.tokens self.old.talk self.old.owed self.old.leaving
@@ -248,7 +256,7 @@ impl<'a, C: Channel> Client<'a, C> {
         if self.leaving.is_none() {
             self.leaving = Some(Parting::LetGo);
         }
-        self.tell(alloc);
+        self.tell(alloc)
     }
 
     /// Whether the client is leaving, and nothing keeps it.
@@ -256,7 +264,7 @@ impl<'a, C: Channel> Client<'a, C> {
         match self.leaving {
             None => false,
             Some(Parting::Ended(SessionEnd::WriteFailed)) => true,
-            Some(_) => self.owed.len() == 0,
+            Some(_) => self.owed.is_empty(),
         }
     }
 
@@ -267,7 +275,7 @@ impl<'a, C: Channel> Client<'a, C> {
         ensures there { CountGoes (P.there self.entry.tokens.registry) clients.old 1 clients.new 0 }
         ensures over { P.over clients.old → P.over clients.new }
     {
-        let parting = parting_of(self.leaving, self.owed.len());
+        let parting = parting_of(self.leaving, self.owed.is_empty());
         clients.ended(pass, Some(seat), self.channel, self.tokens, parting);
     }
 }

@@ -3,3 +3,5 @@ pub mod ConversationLemmas
 pub mod SessionLemmas
 pub mod SendingLemmas
 pub mod RequestLemmas
+pub mod UnsentLemmas
+pub mod OwedLemmas

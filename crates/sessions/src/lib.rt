@@ -8,13 +8,16 @@
 
 mod alone;
 mod calls;
+mod owed_answers;
 mod responses;
 mod session;
+mod unsent;
 
 pub use alone::{Alone, session_alone};
 pub use calls::{argument_of, call_of, named_program};
+pub use owed_answers::{OwedAnswers, WhenTaken};
 pub use responses::{answer_to, may_be_sent, no_memory, program_sent, unknown_program};
-pub use session::send::{refuse, send};
+pub use session::send::{AtOnce, Replies, refuse};
 pub use session::{
     Answer, Conversation, ConversationEnd, Service, SessionEnd, exchanges_join, pieces_join,
     run_session,

@@ -11,7 +11,7 @@ mod conversation;
 pub(crate) mod send;
 mod service;
 
-use crate::session::send::refuse;
+use crate::session::send::{AtOnce, refuse};
 use bpf_model::{NoMemory, Value};
 use client_protocol::{ProtocolFault, Request, Version};
 pub use conversation::{Conversation, ConversationEnd, exchanges_join, pieces_join};
@@ -80,7 +80,7 @@ pub fn run_session<
             }
             return SessionEnd::Closed;
         }
-        match conversation.take(alloc, state, answer, &piece[..n], writer) {
+        match conversation.take::<S, F, W, AtOnce>(alloc, state, answer, &piece[..n], writer) {
             Ok(()) => {}
             Err(ConversationEnd::Refused(fault)) => {
                 return refuse(writer, fault.number(), SessionEnd::Refused(fault));

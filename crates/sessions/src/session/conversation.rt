@@ -8,7 +8,7 @@ ghost use Rattle.sessions.specs.Answering.{Answered, BreaksOff};
 ghost use Rattle.sessions.specs.Conversations.{AnswersBy, AnswersPiece, BreaksPiece, Exchange, Converses, AnsweredInEach};
 ghost use Rattle.devices.specs.Devices.{CanWrite, TakesBytes, TakesThenFails};
 
-use crate::session::send::send;
+use crate::session::send::{Replies, send};
 use crate::session::service::{Answer, Service};
 use bpf_model::Value;
 use client_protocol::{Feeder, ProtocolFault, Request, Requests, Version, hello_after};
@@ -74,12 +74,13 @@ impl Conversation {
     }
 
     /// Answers the requests that this piece completes, in order, each into the sink before it looks at the next one. `answer` gets
-    /// the state, the Hello that came before the request, the request, and room for a value. An `Err` says why the conversation
-    /// ended.
+    /// the state, the Hello that came before the request, the request, and room for a value. `K` says how the sink takes the reply of
+    /// a walk. An `Err` says why the conversation ended.
     pub fn take<
         S: Service,
         F: Fn(&mut S, Option<Version>, &Request, &mut Value) -> Answer,
         W: Sink,
+        K: Replies<W>,
     >(
         &mut self,
         alloc: Global,
@@ -112,7 +113,9 @@ impl Conversation {
             return Err(ConversationEnd::NoMemory);
         };
         let came = self.requests.as_slice();
-        let Ok(()) = answer_all(state, answer, hello, came, &mut self.value, sink) else {
+        let Ok(()) =
+            answer_all::<S, F, W, K>(state, answer, hello, came, &mut self.value, sink)
+        else {
             return Err(ConversationEnd::WriteFailed);
         };
         match fault {
@@ -124,7 +127,12 @@ impl Conversation {
 
 /// Answers the requests, which came after this Hello, in order: each answer is written before the next request is looked at.
 /// Found values are left in `value`, one after the other.
-fn answer_all<S: Service, F: Fn(&mut S, Option<Version>, &Request, &mut Value) -> Answer, W: Sink>(
+fn answer_all<
+    S: Service,
+    F: Fn(&mut S, Option<Version>, &Request, &mut Value) -> Answer,
+    W: Sink,
+    K: Replies<W>,
+>(
     state: &mut S,
     answer: &F,
     hello: Option<Version>,
@@ -144,7 +152,7 @@ fn answer_all<S: Service, F: Fn(&mut S, Option<Version>, &Request, &mut Value) -
     let mut hello = hello;
     for request in requests {
         let answered = answer(state, hello, request, value);
-        send(sink, hello, &answered, value)?;
+        send::<W, K>(sink, hello, answered, value)?;
         hello = hello_after(hello, request);
     }
     Ok(())

@@ -115,7 +115,7 @@ fn send_value<W: Sink>(writer: &mut W, hello: Option<Version>, value: &Value) ->
 }
 
 /// Writes the frames of all items of a walk, and of its end.
-fn send_whole<W: Sink>(writer: &mut W, reply: &WalkReply) -> Result<(), Failed>
+pub(crate) fn send_whole<W: Sink>(writer: &mut W, reply: &WalkReply) -> Result<(), Failed>
     requires { CanWrite (W.state writer.old) }
     ensures ok { OnOk result (TakesBytes (W.state writer.old) (W.state writer.new) (response_frames (walk_responses reply.now))) }
     ensures err { OnErr result (TakesPart (W.state writer.old) (W.state writer.new) (response_frames (walk_responses reply.now))) }
@@ -125,42 +125,60 @@ fn send_whole<W: Sink>(writer: &mut W, reply: &WalkReply) -> Result<(), Failed>
     Ok(())
 }
 
-/// As `send_whole`; or one refusal if a value is too long.
-fn send_walk<W: Sink>(
+/// How a sink takes the reply of a walk.
+pub trait Replies<W: Sink> {
+    /// Writes the frames of all items of a walk, and of its end.
+    fn send_reply(writer: &mut W, reply: WalkReply) -> Result<(), Failed>
+        requires { CanWrite (W.state writer.old) }
+        ensures ok { OnOk result (TakesBytes (W.state writer.old) (W.state writer.new) (response_frames (walk_responses reply))) }
+        ensures err { OnErr result (TakesPart (W.state writer.old) (W.state writer.new) (response_frames (walk_responses reply))) };
+}
+
+/// All frames of a reply are made and written at once.
+pub struct AtOnce;
+
+impl<W: Sink> Replies<W> for AtOnce {
+    fn send_reply(writer: &mut W, reply: WalkReply) -> Result<(), Failed> {
+        send_whole(writer, &reply)
+    }
+}
+
+/// Writes the reply of a walk; or one refusal if a value is too long.
+fn send_walk<W: Sink, K: Replies<W>>(
     writer: &mut W,
     hello: Option<Version>,
-    reply: &WalkReply,
+    reply: WalkReply,
 ) -> Result<(), Failed>
     requires { CanWrite (W.state writer.old) }
     ensures ok { OnOk result (TakesBytes (W.state writer.old) (W.state writer.new)
-        (response_frames (sendable hello (walk_responses reply.now)))) }
+        (response_frames (sendable hello (walk_responses reply)))) }
     ensures err { OnErr result (TakesPart (W.state writer.old) (W.state writer.new)
-        (response_frames (sendable hello (walk_responses reply.now)))) }
+        (response_frames (sendable hello (walk_responses reply)))) }
 {
     if have_too_long(hello, &reply.items) {
         return send_too_long(writer);
     }
-    send_whole(writer, reply)
+    K::send_reply(writer, reply)
 }
 
 /// Writes the frames of all responses of an answer to a request after this Hello; if a value was found, it is this one. A
 /// value that is longer than the version allows is not sent: one refusal then replaces all responses.
-pub fn send<W: Sink>(
+pub fn send<W: Sink, K: Replies<W>>(
     writer: &mut W,
     hello: Option<Version>,
-    answer: &Answer,
+    answer: Answer,
     value: &Value,
 ) -> Result<(), Failed>
     requires { CanWrite (W.state writer.old) }
     ensures ok { OnOk result (TakesBytes (W.state writer.old) (W.state writer.new)
-        (response_frames (sendable hello (responses_of answer.now value.now)))) }
+        (response_frames (sendable hello (responses_of answer value.now)))) }
     ensures err { OnErr result (TakesPart (W.state writer.old) (W.state writer.new)
-        (response_frames (sendable hello (responses_of answer.now value.now)))) }
+        (response_frames (sendable hello (responses_of answer value.now)))) }
 {
     match answer {
-        Answer::One(response) => send_one(writer, response),
+        Answer::One(response) => send_one(writer, &response),
         Answer::Found => send_value(writer, hello, value),
-        Answer::Walk(reply) => send_walk(writer, hello, reply),
+        Answer::Walk(reply) => send_walk::<W, K>(writer, hello, reply),
     }
 }
 

@@ -1,0 +1,115 @@
+//! The reply of a walk, as frames that are made a few at a time.
+ghost use Rattle.std.specs.Prelude.{◌≡◌, ◌≢◌, ◌≤◌, ◌<◌, ◌++◌, true, length, OnOk, OnErr};
+ghost use Rattle.bins.specs.Entries.{entry_of};
+ghost use Rattle.client_protocol.specs.Responses.{response_frame, response_frames};
+ghost use Rattle.sessions.specs.Answering.{item_of, walk_responses};
+ghost use Rattle.sessions.specs.Unsent.{item_frames_from};
+
+use crate::session::send::end_of;
+use atomic_methods::WalkReply;
+use bins::MergedEntries;
+use client_protocol::item_head;
+use devices::Owed;
+use std::alloc::AllocError;
+use std::marker::Model;
+
+/// Frames are made until this many bytes are owed.
+const CHUNK_BYTES: usize = 65536;
+
+/// What an item takes beside the bytes of its key and its value, about.
+const ITEM_BYTES: usize = 64;
+
+/// The frames of a walk's reply that are not made yet: at least that of its end.
+#[derive(Drop)]
+pub struct UnsentReply {
+    reply: WalkReply,
+    next: usize,
+    bytes: usize,
+}
+
+impl Model for UnsentReply {
+    ghost use Rattle.std.specs.Prelude.{ℕ, List, ◌≤◌, length};
+    ghost use Rattle.sessions.specs.Unsent.{frames_from};
+
+    ghost Value = { List ℕ };
+
+    ghost view = { λ u. frames_from u.reply u.next };
+
+    ghost invariant = { λ u. u.next ≤ length u.reply.items };
+}
+
+/// Returns about how many bytes the items take in memory.
+fn bytes_of(items: &MergedEntries) -> usize {
+    let mut bytes = 0usize;
+    for position in 0..items.len() {
+        let (key, value) = items.get(position);
+        bytes = bytes.saturating_add(ITEM_BYTES + key.len() + value.len());
+    }
+    bytes
+}
+
+/// Owes the frame of the item at a position.
+fn owe_item(items: &MergedEntries, position: usize, owed: &mut Owed) -> Result<(), AllocError>
+    requires { position < length items.now }
+    ensures ok { OnOk result (owed.new ≡ owed.old ++ response_frame (item_of (entry_of items.now position))) }
+    ensures err { OnErr result (owed.new ≡ owed.old) }
+{
+    let (key, value) = items.get(position);
+    let head = item_head(key, value);
+    owed.append_both(head.as_slice(), value)
+}
+
+/// Owes the frames of the next items, until enough bytes are owed, and counts `next` on.
+fn owe_items(
+    items: &MergedEntries,
+    next: &mut usize,
+    owed: &mut Owed,
+) -> Result<(), AllocError>
+    requires { next.old ≤ length items.now }
+    ensures within { next.new ≤ length items.now }
+    ensures whole { owed.new ++ item_frames_from items.now next.new ≡ owed.old ++ item_frames_from items.now next.old }
+{
+    for position in *next..items.len() {
+        if owed.len() >= CHUNK_BYTES {
+            break;
+        }
+        owe_item(items, position, owed)?;
+        *next = position + 1;
+    }
+    Ok(())
+}
+
+impl UnsentReply {
+    /// Begins with the whole reply. Takes no memory.
+    pub fn new(reply: WalkReply) -> UnsentReply
+        ensures whole { result ≡ response_frames (walk_responses reply) }
+        ensures some { 1 ≤ length result }
+    {
+        let bytes = bytes_of(&reply.items);
+        UnsentReply {
+            reply,
+            next: 0,
+            bytes,
+        }
+    }
+
+    /// Returns about how many bytes are kept.
+    pub fn bytes(&self) -> usize {
+        self.bytes
+    }
+
+    /// Makes the next frames, and owes them. Returns whether all are made. If a request for memory is refused, no byte is lost, and
+    /// you may try again.
+    pub fn owe_next(&mut self, owed: &mut Owed) -> Result<bool, AllocError>
+        ensures done { result ≡ Ok true → owed.new ≡ owed.old ++ self.old }
+        ensures more { result ≢ Ok true → owed.new ++ self.new ≡ owed.old ++ self.old }
+        ensures some { 1 ≤ length self.new }
+    {
+        owe_items(&self.reply.items, &mut self.next, owed)?;
+        if self.next < self.reply.items.len() {
+            return Ok(false);
+        }
+        owed.append(end_of(self.reply.counts).frame().as_slice())?;
+        Ok(true)
+    }
+}
