@@ -1,7 +1,7 @@
 #!/usr/bin/env python3
 """Bounds what entries cost the built programs, without timing anything. Of mapd: how much its resident memory grows with twice as many
 entries, at six lengths; what is left of it after all are removed, or after long values became short; how many entries fit in a bounded
-address space; and how much walks that answer nothing need. Of bpfmap, if there is a valgrind: how many instructions a key takes that isn't
+address space; how much walks that answer nothing need; and how much a reply needs that isn't read. Of bpfmap, if there is a valgrind: how many instructions a key takes that isn't
 random, beside a random one as long, also while keys of one hash are there, and after they went.
 
 By hand, after `rt run` in crates/bpfmap and crates/mapd: python3 tests/entries.py. Other programs are tried by --bpfmap and --mapd."""
@@ -13,6 +13,7 @@ import itertools
 import random
 import re
 import shutil
+import socket
 import subprocess
 import sys
 import tempfile
@@ -36,6 +37,10 @@ ROOMY, CROWDED, GIBIBYTE_KIB = 600_000, 1_400_000, 1 << 20
 WALKED, IN_PLACE_MIB, COPIED_MIB = 200_000, 1, 8
 SHORT = bytes.fromhex("b7000000ffffffff 9500000000000000")
 LONG = bytes.fromhex("b700000000000000") * 63 + SHORT
+# While the reply with an answer for each of them isn't read, the server needs at most this many MiB more. The keys and answers take ???, and the frames 23.
+UNREAD_MIB = 48
+COPYING = b"".join(bytes([0x79, 0x20, at, 0, 0, 0, 0, 0, 0x7b, 0x04, at, 0, 0, 0, 0, 0]) for at in range(0, 96, 8))
+COPYING += bytes.fromhex("b700000060000000 9500000000000000")
 # How many keys of each kind are put and read.
 KEYS = 20_000
 MEBIBYTE = 1 << 20
@@ -88,11 +93,16 @@ class Session:
         status = Path(f"/proc/{self.server.process.pid}/status").read_text()
         return 1024 * int(re.search(line + r":\s+(\d+) kB", status)[1])
 
-    def more_at_once(self, walks: Iterable[bytes]) -> int:
-        """Makes walks, and returns how many bytes more than before the server had while it made them, at the most."""
+    def begin(self) -> int:
+        """The bytes of memory that the server has. From now on the most that it has is counted anew."""
         before = self.resident()
         with contextlib.suppress(OSError):  # else the most so far counts, which is what there is now
             Path(f"/proc/{self.server.process.pid}/clear_refs").write_text("5")
+        return before
+
+    def more_at_once(self, walks: Iterable[bytes]) -> int:
+        """Makes walks, and returns how many bytes more than before the server had while it made them, at the most."""
+        before = self.begin()
         for walk in walks:
             if self.client.walk(walk) != [wire.end(WALKED, 0, 0)]:
                 raise wire.Wrong("a walk that answers nothing answered something else")
@@ -148,6 +158,25 @@ def try_walks(program: Path) -> None:
                 raise wire.Wrong(f"the {what} program that answers nothing is refused")
             took = session.more_at_once([wire.walk(SEARCH, number, None), wire.walk(FOR_EACH, number, None)])
             most(f"MiB more at once for walks over {WALKED} entries by a {what} program that answers nothing", took / MEBIBYTE, bound)
+
+
+def try_unread(program: Path) -> None:
+    """A client asks for an answer at each entry, and reads none. The server has the answers once, and makes their frames when the client reads.
+    Meanwhile another client of the same worker is served."""
+    with Session(program) as session, wire.opened(session.server.address, 2) as other:
+        session.put(range(WALKED), 16, 100)
+        if session.client.ask(wire.register((64, 256, 0, 96), COPYING)) != b"\x81" + wire.number_field(0):
+            raise wire.Wrong("the program that copies its value is refused")
+        before = session.begin()
+        session.client.send(wire.walk(FOR_EACH, 0, None))
+        session.client.socket.recv(1, socket.MSG_PEEK)
+        if other.ask(wire.get(scattered(0, 16))) != wire.value(bytes(100)):
+            raise wire.Wrong("a client is not served while another doesn't read its reply")
+        took = session.resident("VmHWM") - before
+        most(f"MiB more for an answer at each of {WALKED} entries that isn't read", took / MEBIBYTE, UNREAD_MIB)
+        items = [wire.item(scattered(number, 16), bytes(96)) for number in range(WALKED)]
+        if session.client.walked() != [*sorted(items), wire.end(WALKED, WALKED, 0)]:
+            raise wire.Wrong("the reply that was read late is another one")
 
 
 def instructions(program: Path, bodies: Iterable[bytes]) -> int:
@@ -218,6 +247,7 @@ def main() -> None:
         try_shorter(asked.mapd)
         try_bounded(asked.mapd)
         try_walks(asked.mapd)
+        try_unread(asked.mapd)
         if shutil.which("valgrind"):
             try_keys(asked.bpfmap)
         else:
