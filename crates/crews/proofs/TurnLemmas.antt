@@ -133,6 +133,13 @@ module _ {C : Type 0} (state : C → ChannelState) (registry : Registry) (passwo
     unfailed = λ none. failures ∙ stands.unfailed none;
   }
 
+  -- and then the room for it was given up
+  pub stands_settled : (came : Arrival C) (now next : C) (exchanges : List (Exchange Station)) (tokens : KeptTokens) (talk : Talk) (owed left settled : OwedState) (leaving : Option Parting)
+      → TakesOwed (state now) (state next) owed.rest left.rest → left.failures ≡ owed.failures → settled ≡ left → Stands state registry password came now exchanges tokens talk owed leaving → Stands state registry password came next exchanges tokens talk settled leaving
+  stands_settled came now next exchanges tokens talk owed left settled leaving takes failures is stands =
+      subst (λ (o : OwedState). Stands state registry password came next exchanges tokens talk o leaving) (sym is)
+      (stands_told came now next exchanges tokens talk owed left leaving takes failures stands)
+
   -- it leaves, whatever it is owed
   pub stands_leaving : (came : Arrival C) (now : C) (exchanges : List (Exchange Station)) (tokens : KeptTokens) (talk : Talk) (owed : OwedState) (leaving : Option Parting) (parting : Parting)
       → ((exchanges : List (Exchange Station)) (read said : List ℕ) → IsCutShort password (protocol_of talk) exchanges read said → SaysSo password (Some parting) talk exchanges read said)
