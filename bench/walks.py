@@ -1,6 +1,7 @@
 #!/usr/bin/env python3
 """The client of walks.sh: fills a server on loopback, or calls it for some time and prints the median nanoseconds of a call. It checks each
-answer. python3 bench/walks.py mapd|team|redis|mget PORT fill|get|search|for_each|hit ENTRIES MILLISECONDS"""
+answer, or the length of a reply with all. python3 bench/walks.py mapd|team|redis|mget PORT fill|get|search|for_each|hit|first|whole ENTRIES
+MILLISECONDS"""
 from __future__ import annotations
 
 import argparse
@@ -21,7 +22,7 @@ SIZES = (64, 8, 8, 8)
 RARE = bytes.fromhex("7920000000000000 7939000000000000 1f90000000000000 150002004d000000"
                      "b7000000ffffffff 9500000000000000 b700000000000000 9500000000000000")
 SUM = bytes.fromhex("7920000000000000 7939000000000000 0f90000000000000 7b04000000000000 b700000008000000 9500000000000000")
-WALKS = {"search": (SEARCH, RARE), "for_each": (FOR_EACH, RARE), "hit": (SEARCH, SUM)}
+WALKS = {"search": (SEARCH, RARE), "for_each": (FOR_EACH, RARE), "hit": (SEARCH, SUM), "first": (FOR_EACH, SUM), "whole": (FOR_EACH, SUM)}
 ONE, ARGUMENT, ANSWER = (number.to_bytes(8, "little") for number in (1, 5, 6))
 # What a side of Redis does with each page of keys, and what a kind does with a value that is the argument, and returns at the end.
 READ = {"redis": "for _, key in ipairs(page[2]) do local value = redis.call('GET', key)",
@@ -39,6 +40,7 @@ until cursor == '0'
 return %s
 """
 PIECE = 1_000
+READ_BYTES = 1 << 20
 # A median is of at least this many calls.
 LEAST_CALLS = 3
 
@@ -69,39 +71,60 @@ def fill_redis(client: redis_wire.Client, entries: int) -> None:
     wire.same("DBSIZE", client.ask("DBSIZE"), redis_wire.integer(entries))
 
 
-def call_mapd(client: wire.Client, kind: str, entries: int) -> Callable[[], None]:
-    """Returns what makes one call and checks its answer."""
+def reply_came(client: wire.Client, kind: str, request: bytes, length: int) -> int:
+    """Asks for a reply of this length and reads it. Returns when its first bytes had come, or all."""
+    client.send(request)
+    got = len(client.socket.recv(READ_BYTES))
+    came = time.perf_counter_ns()
+    while got < length and (more := len(client.socket.recv(READ_BYTES))):
+        got += more
+    wire.same("the length of a reply", got, length)
+    return came if kind == "first" else time.perf_counter_ns()
+
+
+def timed(call: Callable[[], None]) -> Callable[[], int]:
+    """Makes the call, and returns when it ended."""
+    def ended() -> int:
+        call()
+        return time.perf_counter_ns()
+    return ended
+
+
+def call_mapd(client: wire.Client, kind: str, entries: int) -> Callable[[], int]:
+    """Returns what makes one call, checks its answer, and returns when that had come."""
     least = min(keys_of(entries))
     if kind == "get":
-        return lambda: wire.same("a Get", client.ask(wire.get(least)), wire.value(ONE))
+        return timed(lambda: wire.same("a Get", client.ask(wire.get(least)), wire.value(ONE)))
     tag, program = WALKS[kind]
     number = client.ask(wire.register(SIZES, program))[1:]
     request = bytes([tag]) + number + wire.arg_field(ARGUMENT) + wire.number_field(0)
+    if kind in ("first", "whole"):
+        length = entries * len(wire.frame(wire.item(least, ANSWER))) + len(wire.frame(wire.end(entries, entries, 0)))
+        return lambda: reply_came(client, kind, request, length)
     items = [wire.item(least, ANSWER)] if kind == "hit" else []
     wanted = [*items, wire.end(entries, len(items), 0)]
-    return lambda: wire.same(f"a {kind}", client.walk(request), wanted)
+    return timed(lambda: wire.same(f"a {kind}", client.walk(request), wanted))
 
 
-def call_redis(client: redis_wire.Client, side: str, kind: str) -> Callable[[], None]:
-    """Returns what makes one call and checks its answer."""
+def call_redis(client: redis_wire.Client, side: str, kind: str) -> Callable[[], int]:
+    """Returns what makes one call, checks its answer, and returns when that had come."""
     if kind == "get":
         key = keys_of(1)[0]
-        return lambda: wire.same("a GET", client.ask("GET", key), redis_wire.value(ONE))
+        return timed(lambda: wire.same("a GET", client.ask("GET", key), redis_wire.value(ONE)))
     script = redis_wire.text_of(client.ask("SCRIPT", "LOAD", SCRIPT % (READ[side], *FOUND[kind])))
     argument = ONE if kind == "hit" else ARGUMENT
     wanted = {"search": redis_wire.NOTHING, "for_each": redis_wire.array(), "hit": redis_wire.value(ONE)}[kind]
-    return lambda: wire.same(f"a {kind}", client.ask("EVALSHA", script, 0, argument), wanted)
+    return timed(lambda: wire.same(f"a {kind}", client.ask("EVALSHA", script, 0, argument), wanted))
 
 
-def median_of(call: Callable[[], None], milliseconds: int) -> int:
+def median_of(call: Callable[[], int], milliseconds: int) -> int:
     """The median nanoseconds of calls that are made for this long, after one that isn't timed."""
     call()
     times: list[int] = []
     until = time.perf_counter_ns() + 1_000_000 * milliseconds
     while len(times) < LEAST_CALLS or time.perf_counter_ns() < until:
         begun = time.perf_counter_ns()
-        call()
-        times.append(time.perf_counter_ns() - begun)
+        times.append(call() - begun)
     return round(statistics.median(times))
 
 

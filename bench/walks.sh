@@ -1,6 +1,7 @@
 #!/usr/bin/env bash
 # Times walks over 100,000 entries of 8 and 8 bytes in mapd, in Java's ConcurrentHashMap and in Redis, in one run and by turns: a search that
-# finds nothing, a for-each whose function answers nothing, and a search whose every key hits. Keys are in no order, and each value is 1.
+# finds nothing, a for-each whose function answers nothing, and a search whose every key hits; of mapd alone also a for-each whose every key is
+# answered, until its first byte comes, and until all have. Keys are in no order, and each value is 1.
 # mapd has 64 stripes and one worker, and answers a Search or ForEach with threshold 0: the worker walks itself, or a team of four does.
 # Java walks by one thread, and by all, in the process that has the map: no request is sent, and all its values are one object. Redis runs a
 # script by EVALSHA, which goes through SCAN with COUNT 1000, reads each key by a GET, or each page by an MGET, and compares the bytes. If
@@ -21,7 +22,8 @@ entries=${ENTRIES:-100000}
 # seconds after which no further round begins
 all_seconds=120
 # a kind of call, and what it is called
-kinds=("search search, no hit" "for_each for-each, no answer" "hit search, all hit" "get one Get")
+kinds=("search search, no hit" "for_each for-each, no answer" "hit search, all hit" "first for-each, all answer: first byte"
+    "whole for-each, all answer: all bytes" "get one Get")
 # whose times are printed, and what they are called; Java has two of them
 columns=("mapd mapd" "team team of four" "java Java" "parallel parallel" "redis Redis" "mget by MGET")
 sides=(mapd team)
@@ -48,7 +50,12 @@ has() {
 }
 
 # Whether a side makes calls of a kind.
-is_made() { [ "$2" != get ] || [ "$1" = mapd ] || [ "$1" = redis ]; }
+is_made() {
+    case $2 in
+        get) [ "$1" = mapd ] || [ "$1" = redis ] ;;
+        first | whole) [ "$1" = mapd ] || [ "$1" = team ] ;;
+    esac
+}
 
 # A side and a kind: lines of a column and nanoseconds.
 play() {
