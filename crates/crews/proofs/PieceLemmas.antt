@@ -6,7 +6,7 @@ use Rattle.client_protocol.specs.declared.fault.ProtocolFault.{ProtocolFault}
 use Rattle.client_protocol.specs.Faults.{protocol_fault_number}
 use Rattle.client_protocol.specs.Frames.{Held, held_fault}
 use Rattle.client_protocol.specs.Frames.Held.{open_at, failed}
-use Rattle.devices.specs.Devices.{TakesBytes, TakesFront, TakesPart, TakesThenFails}
+use Rattle.devices.specs.Devices.{SinkState, TakesBytes, TakesFront, TakesPart, TakesThenFails}
 use Rattle.redis_service.specs.Lines.{no_memory_line}
 use Rattle.redis_service.specs.Talks as redis
 use Rattle.redis_service.specs.Talks.{TalkState, begun}

@@ -29,7 +29,7 @@ go_on-requires-clause-client g c =
       password,
       old,
       turns,
-      client_still state gave registry password old turns (known s.room.serving) s.came c.in-Some.client c.let_go.new.self c.let_go.ensures.number (c.let_go.ensures.stands registry password)
+      client_still state gave registry password old turns (known s.room.serving) s.came c.in-Some.client c.let_go-standing.new.self c.let_go-standing.ensures.number (c.let_go-standing.ensures.stands registry password)
           (client_in state gave registry password old turns (known s.room.serving) s.came s.seats c.args.seat c.in-Some.client attended c.in-Some.ensures.value),
     )
 
@@ -51,8 +51,8 @@ returns-clause-there g c registry password old turns attended =
     let state = g.C.Channel.state in
     let gave = g.P.Clients.gave in
     let s = c.args.self.now in
-    let after = c.let_go.new.self in
-    let of = client_of state gave registry password old turns (known s.room.serving) s.came after (client_still state gave registry password old turns (known s.room.serving) s.came c.in-Some.client after c.let_go.ensures.number (c.let_go.ensures.stands registry password)
+    let after = c.let_go-standing.new.self in
+    let of = client_of state gave registry password old turns (known s.room.serving) s.came after (client_still state gave registry password old turns (known s.room.serving) s.came c.in-Some.client after c.let_go-standing.ensures.number (c.let_go-standing.ensures.stands registry password)
     (client_in state gave registry password old turns (known s.room.serving) s.came s.seats c.args.seat c.in-Some.client attended c.in-Some.ensures.value)) in
     let n = slab_len c.try_remove.new.self in
     counts_by (g.P.Clients.there registry) c.args.clients.now c.go_on.new.clients (n + 1) (slab_len c.go_on.new.self.seats) 0 (slab_len c.args.self.now.seats) (slab_len c.go_on.new.self.seats) (omega (arith, c.in-Some.ensures.len)) (omega arith) (counts_of g.P.Clients.there after.tokens.registry registry c.args.clients.now c.go_on.new.clients (n + 1) (slab_len c.go_on.new.self.seats) of c.go_on.ensures.there)
@@ -64,6 +64,6 @@ returns-clause-attended g c registry password old turns attended =
     let s = c.args.self.now in
     c.go_on.ensures.attended registry password old turns
     (seat_left state gave registry password old turns (known s.room.serving) s.came s.seats c.try_remove.new.self c.args.seat c.in-Some.ensures.updates attended)
-    (seat_none state gave registry password old turns (known s.room.serving) s.came s.seats c.try_remove.new.self c.args.seat c.in-Some.client c.let_go.new.self c.in-Some.ensures.value c.in-Some.ensures.updates c.let_go.ensures.number attended)
-    (client_still state gave registry password old turns (known s.room.serving) s.came c.in-Some.client c.let_go.new.self c.let_go.ensures.number (c.let_go.ensures.stands registry password)
+    (seat_none state gave registry password old turns (known s.room.serving) s.came s.seats c.try_remove.new.self c.args.seat c.in-Some.client c.let_go-standing.new.self c.in-Some.ensures.value c.in-Some.ensures.updates c.let_go-standing.ensures.number attended)
+    (client_still state gave registry password old turns (known s.room.serving) s.came c.in-Some.client c.let_go-standing.new.self c.let_go-standing.ensures.number (c.let_go-standing.ensures.stands registry password)
     (client_in state gave registry password old turns (known s.room.serving) s.came s.seats c.args.seat c.in-Some.client attended c.in-Some.ensures.value))

@@ -24,5 +24,5 @@ ended-requires g c =
       appended = stands.appended;
       keeps = subst (λ (r : Registry). KeepsTokens (no_tokens r) (exchanges_of s.number turns) s.tokens) (sym stands.of) stands.keeps;
       password = password;
-      parts = subst (λ (protocol : Protocol). PartsSo password protocol c.parting_of-parting.result (exchanges_of s.number turns) stands.read stands.written) stands.speaks (c.parting_of-parting.ensures password s.talk (exchanges_of s.number turns) stands.read stands.written s.owed.rest (sym c.len.ensures) stands.says);
+      parts = subst (λ (protocol : Protocol). PartsSo password protocol c.parting_of-parting.result (exchanges_of s.number turns) stands.read stands.written) stands.speaks (c.parting_of-parting.ensures password s.talk (exchanges_of s.number turns) stands.read stands.written s.owed.rest c.is_empty.ensures.0 stands.says);
     }

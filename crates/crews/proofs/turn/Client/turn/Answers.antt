@@ -5,8 +5,8 @@ use Rattle.crews.proofs.turn.Client.turn.Goals as goal
 
 pub returns-clause-turns : goal.returns-clause-turns
 returns-clause-turns g c registry password came exchanges stands =
-    let heard = c.hear-standing.ensures.turns registry password came exchanges stands in
-    let h = c.hear-standing.new.self in
-    let t = c.tell.new.self in
-    then_stands g.C.Channel.state registry password (known c.args.room.now.serving) (known c.hear-standing.new.room.serving) came h.channel t.channel exchanges h.tokens t.tokens h.talk t.talk h.owed t.owed h.leaving t.leaving
-    heard (c.tell.ensures.stands registry password came (exchanges ++ heard.more))
+    let heard = c.hear-read.ensures.turns registry password came exchanges stands in
+    let h = c.hear-read.new.self in
+    let t = c.tell-sent.new.self in
+    then_stands g.C.Channel.state registry password (known c.args.room.now.serving) (known c.hear-read.new.room.serving) came h.channel t.channel exchanges h.tokens t.tokens h.talk t.talk h.owed t.owed h.leaving t.leaving
+    heard (c.tell-sent.ensures.stands registry password came (exchanges ++ heard.more))
