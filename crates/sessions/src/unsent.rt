@@ -60,11 +60,7 @@ fn owe_item(items: &MergedEntries, position: usize, owed: &mut Owed) -> Result<(
 }
 
 /// Owes the frames of the next items, until enough bytes are owed, and counts `next` on.
-fn owe_items(
-    items: &MergedEntries,
-    next: &mut usize,
-    owed: &mut Owed,
-) -> Result<(), AllocError>
+fn owe_items(items: &MergedEntries, next: &mut usize, owed: &mut Owed) -> Result<(), AllocError>
     requires { next.old ≤ length items.now }
     ensures within { next.new ≤ length items.now }
     ensures whole { owed.new ++ item_frames_from items.now next.new ≡ owed.old ++ item_frames_from items.now next.old }

@@ -113,8 +113,7 @@ impl Conversation {
             return Err(ConversationEnd::NoMemory);
         };
         let came = self.requests.as_slice();
-        let Ok(()) =
-            answer_all::<S, F, W, K>(state, answer, hello, came, &mut self.value, sink)
+        let Ok(()) = answer_all::<S, F, W, K>(state, answer, hello, came, &mut self.value, sink)
         else {
             return Err(ConversationEnd::WriteFailed);
         };

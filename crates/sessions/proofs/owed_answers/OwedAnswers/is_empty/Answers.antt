@@ -6,8 +6,7 @@ use Rattle.sessions.proofs.owed_answers.OwedAnswers.is_empty.Goals.{then-is_some
 pub returns-then-is_some : goal.returns-then-is_some
 returns-then-is_some c =
     let inside = c.self.inside in
-    rw (sym c.self.view_is)
-    (
+    rw (sym c.self.view_is) (
       (λ t. search rules),
       (λ none. elim c.then-is_some.branch [
         | then-is_some-via-then-is_some w ↦

@@ -15,8 +15,7 @@ returns-in_default-clause-taken g c =
 
 pub loop-preserved : goal.loop-preserved
 loop-preserved g c =
-    rw c.go_on.ensures
-    (
+    rw c.go_on.ensures (
       takes_both (g.C.Channel.state c.args.channel.now) (g.C.Channel.state c.loop.channel) (g.C.Channel.state c.send_front-taking.new.channel)
           c.args.self.now.rest c.loop.self.rest c.send_front-taking.new.self.rest c.loop.invariant.0 c.send_front-taking.ensures.taken,
       c.send_front-taking.ensures.failures ∙ c.loop.invariant.1,
