@@ -1,5 +1,5 @@
 -- The frames of a walk's reply that are still to be made.
-use Rattle.std.specs.Prelude.{ℕ, List, [], ◌∷◌, ◌++◌, drop, map}
+use Rattle.std.specs.Prelude.{ℕ, List, ◌++◌, drop, map}
 use Rattle.bins.specs.Table.{Entry}
 use Rattle.client_protocol.specs.Responses.{response_frame, response_frames}
 use Rattle.atomic_methods.specs.declared.walk_reply.WalkReply.{WalkReply}

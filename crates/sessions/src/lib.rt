@@ -1,8 +1,8 @@
 //! Sessions of clients over a given reader and writer.
 //!
 //! The promise to the layers above: `session_alone` writes the answers to the requests that it reads, and nothing else
-//! (by `specs/Requests.antt` and `specs/Sessions.antt`). `run_session` is its loop, over any `Service`. Readers and
-//! writers are those of the crate devices. A session waits only for its reader. A refused request for memory is answered
+//! (by `specs/Requests.antt` and `specs/Sessions.antt`). `run_session` is its loop, over any `Service`. `OwedAnswers` owe all
+//! bytes that they took, in order, to a connection that never blocks. Readers and writers are those of the crate devices. A session waits only for its reader. A refused request for memory is answered
 //! as a refusal.
 #![tactic(auto)]
 

@@ -1,4 +1,4 @@
-use Rattle.std.proofs.Common.{◌≡◌, ◌≤◌, ◌++◌, [], length, true, unwrap_or, is_some, rules, sym, arith}
+use Rattle.std.proofs.Common.{◌≡◌, ◌++◌, [], true, unwrap_or, is_some, rules, sym, arith}
 use Rattle.sessions.proofs.OwedLemmas.{front_owed, reply_owed}
 use Rattle.sessions.proofs.owed_answers.OwedAnswers.is_empty.Goals as goal
 use Rattle.sessions.proofs.owed_answers.OwedAnswers.is_empty.Goals.{then-is_some-via-then-is_some, then-is_some-via-else-is_some+then-len-gt0}
