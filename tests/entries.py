@@ -37,7 +37,8 @@ ROOMY, CROWDED, GIBIBYTE_KIB = 600_000, 1_400_000, 1 << 20
 WALKED, IN_PLACE_MIB, COPIED_MIB = 200_000, 1, 8
 SHORT = bytes.fromhex("b7000000ffffffff 9500000000000000")
 LONG = bytes.fromhex("b700000000000000") * 63 + SHORT
-# While the reply with an answer for each of them isn't read, the server needs at most this many MiB more. The keys and answers take ???, and the frames 23.
+# While a reply with an answer for each of them isn't read, the server needs at most this many MiB more, for its keys and answers. All frames
+# would take 23 more.
 UNREAD_MIB = 48
 COPYING = b"".join(bytes([0x79, 0x20, at, 0, 0, 0, 0, 0, 0x7b, 0x04, at, 0, 0, 0, 0, 0]) for at in range(0, 96, 8))
 COPYING += bytes.fromhex("b700000060000000 9500000000000000")
