@@ -68,8 +68,6 @@ SESSIONS: list[list[Asked]] = [
     [Call(model.GET, A), Call(model.PUT, B, value=b"z"), Count(), *walks(0, None), computed(A, 0), Call(model.GET, A)],
     [Register(model.ADD), Call(model.PUT, C, value=ONE), Call(model.PUT, D, value=TWO), *walks(1, ONE), Count()],
     [Register(model.TAKE), Call(model.PUT, E, value=LONGEST), Call(model.GET, E), *walks(2, LONGEST), Call(model.GET, A)],
-    # a reply of so many items is kept, and its frames are made later
-    [*(Call(model.PUT, b"%02d" % number, value=ONE) for number in range(70)), Walk(model.FOR_EACH, 1, ONE), Call(model.GET, A)],
     [Call(model.GET, key) for key in (A, B, C, D, E)],
 ]
 OPTIONS = ["--workers", "1", "--team", "2", "--sessions", str(len(SESSIONS))]
