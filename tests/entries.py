@@ -39,7 +39,7 @@ SHORT = bytes.fromhex("b7000000ffffffff 9500000000000000")
 LONG = bytes.fromhex("b700000000000000") * 63 + SHORT
 # While a reply with an answer for each of them isn't read, the server needs at most this many MiB more, for its keys and answers. All frames
 # would take 23 more.
-UNREAD_MIB = 56
+UNREAD_MIB = 48
 COPYING = b"".join(bytes([0x79, 0x20, at, 0, 0, 0, 0, 0, 0x7b, 0x04, at, 0, 0, 0, 0, 0]) for at in range(0, 96, 8))
 COPYING += bytes.fromhex("b700000060000000 9500000000000000")
 # How many keys of each kind are put and read.
