@@ -57,6 +57,13 @@ impl Owed {
         self.bytes.len() - self.taken
     }
 
+    /// Makes room for this number of bytes more, which can then be owed without a request for memory.
+    pub fn reserve(&mut self, count: usize) -> Result<(), AllocError>
+        ensures { self.new ≡ self.old }
+    {
+        self.bytes.reserve(count)
+    }
+
     /// Owes these bytes after all others. If a request for memory is refused, none of them is owed.
     pub fn append(&mut self, bytes: &[u8]) -> Result<(), AllocError>
         ensures ok { OnOk result (self.new ≡ self.old ++ bytes.now) }

@@ -1,9 +1,12 @@
 -- How a conversation takes pieces: its state between two reads, and how each piece changes it.
-use Rattle.std.specs.Prelude.{◌≡◌, ℕ, List, [], ◌∷◌, ◌++◌, Option}
+use Rattle.std.specs.Prelude.{◌≡◌, ℕ, List, [], ◌∷◌, ◌++◌, Option, None, Some, Result, Ok, Err}
 use Rattle.client_protocol.specs.declared.limits.Version.{Version}
 use Rattle.client_protocol.specs.Requests.{Request}
 use Rattle.client_protocol.specs.declared.response.Response.{Response}
-use Rattle.client_protocol.specs.Frames.{Held, Feeds, held_hello}
+use Rattle.client_protocol.specs.Frames.{Held, Feeds, held_hello, held_fault}
+use Rattle.devices.specs.Devices.{SinkState, TakesBytes, TakesThenFails}
+use Rattle.sessions.specs.declared.session.conversation.ConversationEnd.{ConversationEnd}
+use Rattle.sessions.specs.declared.session.conversation.ConversationEnd.TheVariants.{Refused, NoMemory, WriteFailed}
 use Rattle.sessions.specs.declared.session.service.Answer.{Answer}
 use Rattle.sessions.specs.Answering.{responses_of, hello_behind, Answered, BreaksOff}
 use denote.Ref.{Bor, MutBor}
@@ -38,6 +41,20 @@ module _ {S : Type 0} (Answers : Option Version → S → Request → List Respo
   abbrev pub BreaksPiece : Held → S → List ℕ → List ℕ → Held → S → Type 0
   BreaksPiece held old piece written next new =
       (requests : List Request) × Feeds held piece requests next × BreaksOff Answers (held_hello held) old requests written new
+
+  -- it took the piece, and the sink took the answers
+  abbrev pub WritesPiece : Held → S → List ℕ → SinkState → SinkState → Held → S → Type 0
+  WritesPiece held old piece sink after next new =
+      (written : List ℕ) × TakesBytes sink after written × AnswersPiece held old piece written next new
+
+  -- what became of the piece: all its requests are answered; or those before a fault; or memory was refused, and nothing was done; or
+  -- one request was made whose answer is not wholly written, and none after it
+  abbrev pub TakesPiece : {U : Type 0} → Result U ConversationEnd → Held → S → List ℕ → SinkState → SinkState → Held → S → Type 0
+  TakesPiece (Ok u) held old piece sink after next new = (held_fault next ≡ None) × WritesPiece held old piece sink after next new
+  TakesPiece (Err (Refused fault)) held old piece sink after next new = (held_fault next ≡ Some fault) × WritesPiece held old piece sink after next new
+  TakesPiece (Err NoMemory) held old piece sink after next new = (next ≡ held) × (new ≡ old) × (after ≡ sink)
+  TakesPiece (Err WriteFailed) held old piece sink after next new =
+      (written : List ℕ) × TakesThenFails sink after written × BreaksPiece held old piece written next new
 
   -- it went through these exchanges, one after the other. Between two of them the state may change
   abbrev pub Converses : Held → List (Exchange S) → Held → Type 0

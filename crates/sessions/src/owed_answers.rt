@@ -1,5 +1,6 @@
 //! The answers that a client's connection has not taken yet.
-ghost use Rattle.std.specs.Prelude.{◌≡◌, ◌++◌, ◌↔◌, [], IsTrue, IfErr, OnOk, OnErr};
+ghost use Rattle.std.specs.Prelude.{◌≡◌, ◌+◌, ◌++◌, ◌↔◌, [], Err, IsErr, IsTrue, OnOk, OnErr};
+ghost use Rattle.atomic_methods.specs.declared.walk_reply.WalkReply.{WalkReply as TheReply};
 ghost use Rattle.client_protocol.specs.Responses.{response_frames};
 ghost use Rattle.devices.specs.Channels.{TakesOwed};
 ghost use Rattle.devices.specs.Devices.{CanWrite, TakesBytes, TakesPart};
@@ -7,7 +8,7 @@ ghost use Rattle.sessions.specs.Answering.{walk_responses};
 ghost use Rattle.sessions.specs.OwedAnswers.{sink_of};
 
 use crate::session::send::{Replies, send_whole};
-use crate::unsent::UnsentReply;
+use crate::unsent::{ROOM_BYTES, UnsentReply};
 use atomic_methods::WalkReply;
 use devices::{Channel, Failed, Owed, Sink, Taking};
 use std::alloc::{AllocError, Global};
@@ -24,10 +25,20 @@ const MOST_CHUNKS: usize = 16;
 /// them, and then the bytes after that.
 #[derive(Drop)]
 pub struct OwedAnswers {
+    alloc: Global,
     front: Owed,
-    reply: Option<UnsentReply>,
+    reply: Option<Box<UnsentReply>>,
     back: Owed,
     failures: u64,
+}
+
+/// Why a reply is not kept.
+#[derive(Drop)]
+enum NotKept {
+    /// It has few items, or others are owed after one. Here it is again.
+    Back(WalkReply),
+    /// A request for memory was refused, and the reply is given up.
+    NoMemory,
 }
 
 impl Model for OwedAnswers {
@@ -48,6 +59,7 @@ impl OwedAnswers {
         ensures { result ≡ record { rest = []; failures = 0 } }
     {
         OwedAnswers {
+            alloc,
             front: Owed::new(alloc),
             reply: None,
             back: Owed::new(alloc),
@@ -72,7 +84,7 @@ impl OwedAnswers {
 
     /// Returns about how many bytes are kept.
     pub fn bytes(&self) -> usize {
-        let reply = self.reply.as_ref().map_or(0, UnsentReply::bytes);
+        let reply = self.reply.as_ref().map_or(0, |reply| reply.bytes());
         let made = self.front.len().saturating_add(self.back.len());
         made.saturating_add(reply)
     }
@@ -88,21 +100,37 @@ impl OwedAnswers {
         self.front.append(bytes)
     }
 
-    /// Owes the frames of this reply after all other bytes, to be made later. If they are few, or another reply is owed, it hands the
-    /// reply back.
-    fn keep(&mut self, reply: WalkReply) -> Result<(), WalkReply>
+    /// Owes the frames of this reply after all other bytes, to be made later, in room that is asked for now.
+    fn keep(&mut self, reply: WalkReply) -> Result<(), NotKept>
         ensures ok { OnOk result (self.new ≡ record { rest = self.old.rest ++ response_frames (walk_responses reply); failures = self.old.failures }) }
-        ensures same { OnErr result (self.new ≡ self.old) }
-        ensures err { IfErr result (λ back. back ≡ reply) }
+        ensures err { OnErr result (self.new ≡ self.old) }
+        ensures back { (back : TheReply) → result ≡ Err (NotKept.Back back) → back ≡ reply }
     {
         if self.reply.is_some() || self.back.len() > 0 || reply.items.len() <= FEW_ITEMS {
-            return Err(reply);
+            return Err(NotKept::Back(reply));
         }
-        self.reply = Some(UnsentReply::new(reply));
+        let Ok(()) = self.front.reserve(ROOM_BYTES) else {
+            return Err(NotKept::NoMemory);
+        };
+        let Ok(unsent) = Box::new(self.alloc, UnsentReply::new(reply)) else {
+            return Err(NotKept::NoMemory);
+        };
+        self.reply = Some(unsent);
         Ok(())
     }
 
-    /// Owes the frames of this reply after all other bytes. If they are many, and no other reply is owed, they are made later.
+    /// A write fails, and takes nothing.
+    fn fail<T>(&mut self) -> Result<T, Failed>
+        requires { CanWrite (sink_of self.old) }
+        ensures fails { IsErr result }
+        ensures kept { self.new ≡ record { rest = self.old.rest; failures = self.old.failures + 1 } }
+    {
+        self.failures += 1;
+        Err(Failed)
+    }
+
+    /// Owes the frames of this reply after all other bytes. If they are many, and no other reply is owed, they are made later, and all
+    /// memory that they need is asked for now. If it is refused, none of them is owed.
     fn owe_reply(&mut self, reply: WalkReply) -> Result<(), Failed>
         requires { CanWrite (sink_of self.old) }
         ensures ok { OnOk result (TakesBytes (sink_of self.old) (sink_of self.new) (response_frames (walk_responses reply))) }
@@ -110,7 +138,8 @@ impl OwedAnswers {
     {
         match self.keep(reply) {
             Ok(()) => Ok(()),
-            Err(reply) => send_whole(self, &reply),
+            Err(NotKept::Back(reply)) => send_whole(self, &reply),
+            Err(NotKept::NoMemory) => self.fail(),
         }
     }
 
@@ -181,10 +210,7 @@ impl Sink for OwedAnswers {
     fn write(&mut self, bytes: &[u8]) -> Result<usize, Failed> {
         match self.append(bytes) {
             Ok(()) => Ok(bytes.len()),
-            Err(_) => {
-                self.failures += 1;
-                Err(Failed)
-            }
+            Err(_) => self.fail(),
         }
     }
 

@@ -19,6 +19,12 @@ const CHUNK_BYTES: usize = 65536;
 /// What an item takes beside the bytes of its key and its value, about.
 const ITEM_BYTES: usize = 64;
 
+/// The frame of an item that begins before that many bytes are owed, and of the end, have no more than this.
+const LAST_BYTES: usize = 2048;
+
+/// What `owe_next` adds to nothing that is owed has at most this many bytes.
+pub const ROOM_BYTES: usize = CHUNK_BYTES + LAST_BYTES;
+
 /// The frames of a walk's reply that are not made yet: at least that of its end.
 #[derive(Drop)]
 pub struct UnsentReply {
@@ -89,9 +95,9 @@ impl UnsentReply {
         }
     }
 
-    /// Returns about how many bytes are kept.
+    /// Returns about how many bytes are kept, with the room for frames.
     pub fn bytes(&self) -> usize {
-        self.bytes
+        self.bytes.saturating_add(ROOM_BYTES)
     }
 
     /// Makes the next frames, and owes them. Returns whether all are made. If a request for memory is refused, no byte is lost, and
