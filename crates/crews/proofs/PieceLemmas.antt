@@ -6,6 +6,7 @@ use Rattle.client_protocol.specs.declared.fault.ProtocolFault.{ProtocolFault}
 use Rattle.client_protocol.specs.Faults.{protocol_fault_number}
 use Rattle.client_protocol.specs.Frames.{Held, held_fault}
 use Rattle.client_protocol.specs.Frames.Held.{open_at, failed}
+use Rattle.devices.specs.Channels.{ChannelState, TakesOwed}
 use Rattle.devices.specs.Devices.{SinkState, TakesBytes, TakesFront, TakesPart, TakesThenFails}
 use Rattle.redis_service.specs.Lines.{no_memory_line}
 use Rattle.redis_service.specs.Talks as redis
@@ -13,8 +14,9 @@ use Rattle.redis_service.specs.Talks.{TalkState, begun}
 use Rattle.redis_service.specs.declared.desk.TalkEnd.{TalkEnd}
 use Rattle.redis_service.specs.declared.desk.TalkEnd.TheVariants as talk_end
 use Rattle.sessions.specs.Answering.{IsFront}
-use Rattle.sessions.specs.Conversations.{AnswersPiece, BreaksPiece, Exchange}
-use Rattle.sessions.specs.OwedAnswers.{OwedState, sink_of}
+use Rattle.sessions.specs.Conversations.{AnswersPiece, BreaksPiece, TakesPiece, Exchange}
+use Rattle.sessions.specs.OwedAnswers.{OwedState, IsSent, sink_of}
+use Rattle.sessions.proofs.PartLemmas.{sent_before}
 use Rattle.sessions.specs.Sessions.{refusal}
 use Rattle.sessions.specs.declared.session.SessionEnd.{SessionEnd}
 use Rattle.sessions.specs.declared.session.SessionEnd.TheVariants as session
@@ -43,6 +45,30 @@ front_behind xs part whole (missing, is) = (missing, ap (λ (t : List ℕ). xs +
 
 pub front_of_front : (xs ys whole : List ℕ) → IsFront (xs ++ ys) whole → IsFront xs whole
 front_of_front xs ys whole (missing, is) = (ys ++ missing, is ∙ append_assoc xs ys missing)
+
+-- ---- what was sent meanwhile
+
+-- the last bytes are owed after what was left
+tells_sent : (now next : ChannelState) (last : List ℕ) (end : SessionEnd) (leaving : Option Parting) (whole left c : List ℕ) → TakesOwed now next whole left → TellsLast last end leaving left c
+    → (after : List ℕ) × TakesOwed now next after c × TellsLast last end leaving whole after
+tells_sent now next last end leaving whole left c takes (inl (is, more)) =
+    (whole ++ last, subst (λ (t : List ℕ). TakesOwed now next (whole ++ last) t) (sym more) (sent_before now next whole left last takes), inl (is, refl))
+tells_sent now next last end leaving whole left c takes (inr (is, (part, front, more))) =
+    (whole ++ part, subst (λ (t : List ℕ). TakesOwed now next (whole ++ part) t) (sym more) (sent_before now next whole left part takes), inr (is, (part, front, refl)))
+
+-- so is what a client is owed when it leaves
+pub leaves_sent : {U : Type 0} (taken : Result U ConversationEnd) (now next : ChannelState) (leaving : Option Parting) (whole b c : OwedState) → IsSent now next whole b
+    → MatchResult taken (λ _. (leaving ≡ None) × (c ≡ b)) (λ end. LeavesAt end leaving b.rest c.rest)
+    → (after : OwedState) × IsSent now next after c × MatchResult taken (λ _. (leaving ≡ None) × (after ≡ whole)) (λ end. LeavesAt end leaving whole.rest after.rest)
+leaves_sent (Ok u) now next leaving whole b c sent (is, same) = (whole, subst (λ (o : OwedState). IsSent now next whole o) (sym same) sent, (is, refl))
+leaves_sent (Err (Refused fault)) now next leaving whole b c sent tells =
+    let (after, takes, told) = tells_sent now next (refusal (protocol_fault_number fault)) (session.Refused fault) leaving whole.rest b.rest c.rest sent.0 tells in
+    (record { rest = after; failures = c.failures }, (takes, refl), told)
+leaves_sent (Err NoMemory) now next leaving whole b c sent tells =
+    let (after, takes, told) = tells_sent now next (refusal 9) session.NoMemory leaving whole.rest b.rest c.rest sent.0 tells in
+    (record { rest = after; failures = c.failures }, (takes, refl), told)
+leaves_sent (Err WriteFailed) now next leaving whole b c sent (is, same) =
+    (record { rest = whole.rest; failures = c.failures }, (subst (λ (t : List ℕ). TakesOwed now next whole.rest t) (sym same) sent.0, refl), (is, refl))
 
 -- ---- one exchange more
 
@@ -201,31 +227,25 @@ module _ (password : Option (List ℕ)) where
 
   -- what the conversation made of a piece
   pub piece_says : {U : Type 0} (taken : Result U ConversationEnd) (old new : Station) (held next : Held) (piece : List ℕ) (leaving : Option Parting) (a b c : OwedState) → 1 ≤ length piece
-      → OnOk taken ((held_fault next ≡ None) × ((written : List ℕ) × TakesBytes (sink_of a) (sink_of b) written × AnswersPiece CrewServes held old piece written next new))
-      → ((fault : ProtocolFault) → taken ≡ Err (Refused fault) → (held_fault next ≡ Some fault) × ((written : List ℕ) × TakesBytes (sink_of a) (sink_of b) written × AnswersPiece CrewServes held old piece written next new))
-      → (taken ≡ Err NoMemory → (next ≡ held) × (new ≡ old) × (sink_of b ≡ sink_of a))
-      → (taken ≡ Err WriteFailed → (written : List ℕ) × TakesThenFails (sink_of a) (sink_of b) written × BreaksPiece CrewServes held old piece written next new)
+      → TakesPiece CrewServes taken held old piece (sink_of a) (sink_of b) next new
       → MatchResult taken (λ _. (leaving ≡ None) × (c ≡ b)) (λ end. LeavesAt end leaving b.rest c.rest)
       → (exchanges : List (Exchange Station)) (read said : List ℕ) → SaysSo password None (Frames held) exchanges read said
       → SaysMore password (known old) (known new) exchanges old.tokens new.tokens (Frames next) leaving (read ++ piece) said a.rest c.rest
-  piece_says (Ok u) old new held next piece leaving a b c some (faultless, (written, takes, answers)) refuses lacks breaks (is, same) exchanges read said (opened, all) =
+  piece_says (Ok u) old new held next piece leaving a b c some (faultless, (written, takes, answers)) (is, same) exchanges read said (opened, all) =
       let xs = exchanges ++ exchange old piece written new ∷ [] in
       let kept = piece_same held next old new piece written answers in
       only_answered old new (Frames next) piece written leaving a.rest c.rest exchanges read said (numbers_of old new kept) kept.registry
       (ap (λ (o : OwedState). o.rest) same ∙ takes.0)
       (subst (λ (l : Option Parting). SaysSo password l (Frames next) xs (read ++ piece) (said ++ written)) (sym is)
       (open_of next faultless, said_more (Frames held) (Frames next) (exchange old piece written new) exchanges read said (frames_more old new held next piece written exchanges answers) all))
-  piece_says (Err (Refused fault)) old new held next piece leaving a b c some ok refuses lacks breaks tells exchanges read said (opened, all) =
-      let (faulty, (written, takes, answers)) = refuses fault refl in
+  piece_says (Err (Refused fault)) old new held next piece leaving a b c some (faulty, (written, takes, answers)) tells exchanges read said (opened, all) =
       refused old new held next piece written fault leaving a.rest b.rest c.rest exchanges read said faulty takes.0 answers tells all
-  piece_says (Err NoMemory) old new held next piece leaving a b c some ok refuses lacks breaks tells exchanges read said (opened, all) =
-      let (same, still, kept) = lacks refl in
+  piece_says (Err NoMemory) old new held next piece leaving a b c some (same, still, kept) tells exchanges read said (opened, all) =
       let unwritten : b.rest ≡ a.rest = some_same b.rest a.rest (ap (λ (s : SinkState). s.held) kept) in
       subst (λ (h : Held). SaysMore password (known old) (known new) exchanges old.tokens new.tokens (Frames h) leaving (read ++ piece) said a.rest c.rest) (sym same)
       (subst (λ (s : Station). SaysMore password (known old) (known s) exchanges old.tokens s.tokens (Frames held) leaving (read ++ piece) said a.rest c.rest) (sym still)
       (lacking old (Frames held) piece leaving a.rest c.rest exchanges read said some (subst (λ (t : List ℕ). TellsLast (refusal 9) session.NoMemory leaving t c.rest) unwritten tells) opened all))
-  piece_says (Err WriteFailed) old new held next piece leaving a b c some ok refuses lacks breaks (is, same) exchanges read said (opened, all) =
-      let (written, takes, broke) = breaks refl in
+  piece_says (Err WriteFailed) old new held next piece leaving a b c some (written, takes, broke) (is, same) exchanges read said (opened, all) =
       let kept = broken_same held next old new piece written broke in
       broken old new (Frames held) (Frames next) piece written leaving a.rest c.rest exchanges read said (numbers_of old new kept) kept.registry broke refl is (same ∙ takes.0) all
 

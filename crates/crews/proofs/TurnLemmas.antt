@@ -8,6 +8,7 @@ use Rattle.devices.specs.Channels.{ChannelState, TakesOwed, IsKept}
 use Rattle.sessions.specs.Conversations.{Exchange}
 use Rattle.sessions.specs.OwedAnswers.{OwedState}
 use Rattle.sessions.specs.Sessions.{refusal}
+use Rattle.sessions.proofs.PartLemmas.{sent_none}
 use Rattle.sessions.specs.declared.session.SessionEnd.TheVariants as session
 use Rattle.crews.specs.declared.clients.Parting.{Parting}
 use Rattle.crews.specs.declared.clients.Parting.TheVariants.{Ended, Over, LetGo, NotKept}
@@ -17,7 +18,7 @@ use Rattle.crews.specs.Stations.{KeptTokens, no_tokens, Station}
 use Rattle.crews.specs.Talks.{protocol_of, IsOpen, IsBetween, IsInside}
 use Rattle.crews.specs.Partings.{IsCutShort, PartsSo, SaysSo, no_memory_told}
 use Rattle.crews.specs.Lives.{Arrival, Known, Stands}
-use Rattle.crews.specs.Turns.{SaysMore, TurnsTo}
+use Rattle.crews.specs.Turns.{SaysMore, SaysAndSends, TurnsTo}
 use Rattle.crews.proofs.LifeLemmas.{tokens_go_on, numbers_stay}
 use Rattle.crews.proofs.PieceLemmas.{front_all, front_of_front}
 
@@ -64,6 +65,11 @@ module _ (password : Option (List ℕ)) where
 
 -- ---- how it stands after a turn
 
+-- the connection took nothing meanwhile
+pub sends_none : (now : ChannelState) (password : Option (List ℕ)) (old new : Known) (exchanges : List (Exchange Station)) (tokens after : KeptTokens) (talk : Talk) (leaving : Option Parting) (read said : List ℕ) (owed more : OwedState)
+    → SaysMore password old new exchanges tokens after talk leaving read said owed.rest more.rest → SaysAndSends now now password old new exchanges tokens after talk leaving read said owed more
+sends_none now password old new exchanges tokens after talk leaving read said owed more says = (more, sent_none now more, says)
+
 module _ {C : Type 0} (state : C → ChannelState) (registry : Registry) (password : Option (List ℕ)) where
   -- nothing was read or written
   pub stands_kept : (came : Arrival C) (now next : C) (exchanges : List (Exchange Station)) (tokens : KeptTokens) (talk : Talk) (owed : OwedState) (leaving after : Option Parting)
@@ -91,32 +97,6 @@ module _ {C : Type 0} (state : C → ChannelState) (registry : Registry) (passwo
     stands = subst (λ (es : List (Exchange Station)). Stands state registry password came now es tokens talk owed leaving) (sym (append-nil exchanges)) stands;
   }
 
-  -- a piece was read and answered
-  pub turns_by_piece : (old new : Known) (came : Arrival C) (now next : C) (exchanges : List (Exchange Station)) (tokens after : KeptTokens) (talk later : Talk) (owed more_owed : OwedState) (leaving : Option Parting) (piece : List ℕ)
-      → Consumes (state now).left (state next).left piece → Keeps (state now).held (state next).held
-      → ((read said : List ℕ) → SaysSo password None talk exchanges read said → SaysMore password old new exchanges tokens after later leaving (read ++ piece) said owed.rest more_owed.rest)
-      → protocol_of later ≡ protocol_of talk → (leaving ≡ None → more_owed.failures ≡ 0)
-      → Stands state registry password came now exchanges tokens talk owed None → TurnsTo state registry password old new came next exchanges after later more_owed leaving
-  turns_by_piece old new came now next exchanges tokens after talk later owed more_owed leaving piece consumed kept says speaks unfailed stands =
-      let m = says stands.read (stands.written ++ owed.rest) stands.says in
-      record {
-        more = m.more;
-        moves = m.moves;
-        numbers = m.numbers;
-        stands = record {
-          speaks = speaks ∙ stands.speaks;
-          read = stands.read ++ piece;
-          written = stands.written;
-          consumed = Consumes-trans (state came.channel).left (state now).left (state next).left stands.read piece stands.consumed consumed;
-          appended = Appends-kept (state came.channel).held (state now).held (state next).held stands.written stands.appended kept;
-          of = m.of ∙ stands.of;
-          keeps = tokens_go_on (no_tokens registry) tokens after exchanges m.more stands.keeps m.keeps;
-          says = subst (λ (t : List ℕ). SaysSo password leaving later (exchanges ++ m.more) (stands.read ++ piece) t)
-              (append_assoc stands.written owed.rest m.grown ∙ ap (λ (t : List ℕ). stands.written ++ t) (sym m.owed_is)) m.says;
-          unfailed = unfailed;
-        };
-      }
-
   -- what is owed was taken, or a front of it
   pub stands_told : (came : Arrival C) (now next : C) (exchanges : List (Exchange Station)) (tokens : KeptTokens) (talk : Talk) (owed left : OwedState) (leaving : Option Parting)
       → TakesOwed (state now) (state next) owed.rest left.rest → left.failures ≡ owed.failures → Stands state registry password came now exchanges tokens talk owed leaving → Stands state registry password came next exchanges tokens talk left leaving
@@ -132,6 +112,33 @@ module _ {C : Type 0} (state : C → ChannelState) (registry : Registry) (passwo
         (ap (λ (t : List ℕ). stands.written ++ t) takes.parts ∙ sym (append_assoc stands.written takes.front left.rest)) stands.says;
     unfailed = λ none. failures ∙ stands.unfailed none;
   }
+
+  -- a piece was read and answered, and some of what is owed was taken meanwhile
+  pub turns_by_piece : (old new : Known) (came : Arrival C) (now mid next : C) (exchanges : List (Exchange Station)) (tokens after : KeptTokens) (talk later : Talk) (owed left : OwedState) (leaving : Option Parting) (piece : List ℕ)
+      → Consumes (state now).left (state mid).left piece → Keeps (state now).held (state mid).held
+      → ((read said : List ℕ) → SaysSo password None talk exchanges read said → SaysAndSends (state mid) (state next) password old new exchanges tokens after later leaving (read ++ piece) said owed left)
+      → protocol_of later ≡ protocol_of talk → (leaving ≡ None → left.failures ≡ 0)
+      → Stands state registry password came now exchanges tokens talk owed None → TurnsTo state registry password old new came next exchanges after later left leaving
+  turns_by_piece old new came now mid next exchanges tokens after talk later owed left leaving piece consumed kept says speaks unfailed stands =
+      let (whole, sent, m) = says stands.read (stands.written ++ owed.rest) stands.says in
+      let answered : Stands state registry password came mid (exchanges ++ m.more) after later whole leaving = record {
+        speaks = speaks ∙ stands.speaks;
+        read = stands.read ++ piece;
+        written = stands.written;
+        consumed = Consumes-trans (state came.channel).left (state now).left (state mid).left stands.read piece stands.consumed consumed;
+        appended = Appends-kept (state came.channel).held (state now).held (state mid).held stands.written stands.appended kept;
+        of = m.of ∙ stands.of;
+        keeps = tokens_go_on (no_tokens registry) tokens after exchanges m.more stands.keeps m.keeps;
+        says = subst (λ (t : List ℕ). SaysSo password leaving later (exchanges ++ m.more) (stands.read ++ piece) t)
+            (append_assoc stands.written owed.rest m.grown ∙ ap (λ (t : List ℕ). stands.written ++ t) (sym m.owed_is)) m.says;
+        unfailed = λ none. sym sent.1 ∙ unfailed none;
+      } in
+      record {
+        more = m.more;
+        moves = m.moves;
+        numbers = m.numbers;
+        stands = stands_told came mid next (exchanges ++ m.more) after later whole left leaving sent.0 sent.1 answered;
+      }
 
   -- and then the room for it was given up
   pub stands_settled : (came : Arrival C) (now next : C) (exchanges : List (Exchange Station)) (tokens : KeptTokens) (talk : Talk) (owed left settled : OwedState) (leaving : Option Parting)

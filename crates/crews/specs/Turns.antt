@@ -8,7 +8,7 @@ use Rattle.redis_service.specs.declared.desk.TalkEnd.{TalkEnd}
 use Rattle.redis_service.specs.declared.desk.TalkEnd.TheVariants as talk_end
 use Rattle.sessions.specs.Answering.{IsFront}
 use Rattle.sessions.specs.Conversations.{Exchange}
-use Rattle.sessions.specs.OwedAnswers.{OwedState}
+use Rattle.sessions.specs.OwedAnswers.{OwedState, IsSent}
 use Rattle.sessions.specs.Sessions.{refusal}
 use Rattle.sessions.specs.declared.session.SessionEnd.{SessionEnd}
 use Rattle.sessions.specs.declared.session.SessionEnd.TheVariants as session
@@ -54,6 +54,11 @@ pub record SaysMore (password : Option (List ℕ)) (old new : Known) (exchanges 
   pub grown : List ℕ
   pub owed_is : more_owed ≡ owed ++ grown
   pub says : SaysSo password leaving talk (exchanges ++ more) read (said ++ grown)
+
+-- so it was, and its connection took a front of all that it was owed meanwhile
+abbrev pub SaysAndSends : ChannelState → ChannelState → Option (List ℕ) → Known → Known → List (Exchange Station) → KeptTokens → KeptTokens → Talk → Option Parting → List ℕ → List ℕ → OwedState → OwedState → Type 0
+SaysAndSends now next password old new exchanges tokens after talk leaving read said owed left =
+    (whole : OwedState) × IsSent now next whole left × SaysMore password old new exchanges tokens after talk leaving read said owed.rest whole.rest
 
 module _ {C : Type 0} (state : C → ChannelState) (registry : Registry) (password : Option (List ℕ)) where
   -- further exchanges moved the passes, and the client stands so after them

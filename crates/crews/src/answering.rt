@@ -9,7 +9,7 @@ ghost use Rattle.sessions.specs.Sessions.{refusal};
 ghost use Rattle.crews.specs.Stations.{KeptTokens, Station};
 ghost use Rattle.crews.specs.Partings.{SaysSo};
 ghost use Rattle.crews.specs.Lives.{known};
-ghost use Rattle.crews.specs.Turns.{TellsLast, LeavesAt, LeavesTalk, SaysMore};
+ghost use Rattle.crews.specs.Turns.{TellsLast, LeavesAt, LeavesTalk, SaysMore, SaysAndSends};
 
 use crate::clients::Parting;
 use crate::counting::{count_answer, count_end, count_request};
@@ -20,18 +20,18 @@ use crate::worker::Worker;
 use bin_stripes::Gate;
 use bpf_model::{NoMemory, Value};
 use client_protocol::{Feeder, Request};
-use devices::{Failed, write_all};
+use devices::{Channel, Failed, write_all};
 use redis_service::{Moment, NO_MEMORY_LINE, RedisDesk, RedisTalk, TalkEnd};
 use server_state::WorkerCounts;
-use sessions::{Conversation, ConversationEnd, OwedAnswers, SessionEnd, WhenTaken, refuse};
+use sessions::{Conversation, ConversationEnd, OwedAnswers, SessionEnd, refuse};
 use std::sync::Wait;
 use std::thread::Threads;
 
 /// The most bytes that are read in one turn.
 pub const PIECE_BYTES: usize = 16384;
 
-/// What the turns of a worker's clients share: the worker's number, its passes, the room for a piece, its requests and commands, and
-/// their values, where the worker counts, and the time of the turn, in milliseconds since the epoch.
+/// What the turns of a worker's clients share: the worker's number, its passes, the room for a piece, for its requests and commands, and
+/// for their values, how many bytes the piece has, where the worker counts, and the time of the turn, in milliseconds since the epoch.
 #[derive(Drop)]
 pub struct Room<'a, 'r> {
     pub number: u32,
@@ -39,6 +39,7 @@ pub struct Room<'a, 'r> {
     pub conversation: Conversation,
     pub desk: RedisDesk<'a, 'r>,
     pub piece: [u8; PIECE_BYTES],
+    pub count: usize,
     pub counts: &'a WorkerCounts,
     pub now: u64,
 }
@@ -107,24 +108,24 @@ fn leaving_talk(owed: &mut OwedAnswers, taken: Result<(), TalkEnd>) -> Option<Pa
     }
 }
 
-/// Answers the whole requests of a piece of frames, of this number of bytes, with the tokens of the client, and owes the answers.
-/// Returns how the client leaves, if it does.
-pub fn answer_frames<'a, 'r, H: Threads + Wait + Sync, G: Gate + Sync>(
+/// Answers the whole requests of a piece of frames, with the tokens of the client, and owes the answers. Before each walk it sends what
+/// is owed, as far as the connection takes it then. Returns how the client leaves, if it does.
+pub fn answer_frames<'a, 'r, H: Threads + Wait + Sync, G: Gate + Sync, C: Channel>(
     worker: &Worker<'_, H, G>,
     room: &mut Room<'a, 'r>,
-    count: usize,
     feeder: &mut Feeder,
     tokens: &mut Tokens<'a>,
     owed: &mut OwedAnswers,
+    channel: &mut C,
 ) -> Option<Parting>
     requires unfailed { owed.old.failures ≡ 0 }
-    requires some { 1 ≤ count }
-    requires within { count ≤ length room.old.piece }
+    requires some { 1 ≤ room.old.count }
+    requires within { room.old.count ≤ length room.old.piece }
     ensures desk { room.new.desk ≡ room.old.desk }
     ensures unfailed { result ≡ None → owed.new.failures ≡ 0 }
     ensures says { (password : Option (List ℕ)) (exchanges : List (TheExchange Station)) (read said : List ℕ) → SaysSo password None (Talk.Frames feeder.old) exchanges read said
-        → SaysMore password (known room.old.serving) (known room.new.serving) exchanges tokens.old tokens.new
-        (Talk.Frames feeder.new) result (read ++ take count room.old.piece) said owed.old.rest owed.new.rest }
+        → SaysAndSends (C.state channel.old) (C.state channel.new) password (known room.old.serving) (known room.new.serving) exchanges tokens.old tokens.new
+        (Talk.Frames feeder.new) result (read ++ take room.old.count room.old.piece) said owed.old owed.new }
 {
     let number = room.number;
     let counts = room.counts;
@@ -136,40 +137,36 @@ pub fn answer_frames<'a, 'r, H: Threads + Wait + Sync, G: Gate + Sync>(
     };
     room.serving.lend(tokens);
     room.conversation.resume(feeder);
-    let taken = room.conversation.take::<_, _, _, WhenTaken>(
-        worker.alloc,
-        &mut room.serving,
-        &answer,
-        &room.piece[..count],
-        owed,
-    );
+    let piece = &room.piece[..room.count];
+    let taken = room
+        .conversation
+        .take_and_send(&mut room.serving, &answer, piece, owed, channel);
     room.conversation.resume(feeder);
     room.serving.lend(tokens);
     count_end(counts, &taken);
     leaving_after(owed, taken)
 }
 
-/// Answers the whole commands of a piece, of this number of bytes, and owes the answers. Returns how the client leaves, if it does.
+/// Answers the whole commands of a piece, and owes the answers. Returns how the client leaves, if it does.
 pub fn answer_commands<'a, 'r, H: Wait>(
     rt: &H,
     room: &mut Room<'a, 'r>,
-    count: usize,
     talk: &mut RedisTalk<'_>,
     owed: &mut OwedAnswers,
 ) -> Option<Parting>
     requires unfailed { owed.old.failures ≡ 0 }
-    requires some { 1 ≤ count }
-    requires within { count ≤ length room.old.piece }
+    requires some { 1 ≤ room.old.count }
+    requires within { room.old.count ≤ length room.old.piece }
     requires desk { room.old.serving.pass.map ≡ room.old.desk }
     requires is_open { talk.old.is_over ≡ false }
     ensures desk { room.new.desk ≡ room.old.desk }
     ensures unfailed { result ≡ None → owed.new.failures ≡ 0 }
     ensures says { (password : Option (List ℕ)) (exchanges : List (TheExchange Station)) (tokens : KeptTokens) (read said : List ℕ) → SaysSo password None (Talk.Commands talk.old) exchanges read said
         → SaysMore password (known room.old.serving) (known room.new.serving) exchanges tokens tokens
-        (Talk.Commands talk.new) result (read ++ take count room.old.piece) said owed.old.rest owed.new.rest }
+        (Talk.Commands talk.new) result (read ++ take room.old.count room.old.piece) said owed.old.rest owed.new.rest }
 {
     let moment = Moment { rt, time: room.now };
-    let piece = &room.piece[..count];
+    let piece = &room.piece[..room.count];
     let taken = room
         .serving
         .answer_commands(&moment, &mut room.desk, talk, piece, owed);

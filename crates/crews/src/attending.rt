@@ -341,6 +341,7 @@ fn begun<'a, 'r, H, C: Channel + Drop, G>(
             conversation: Conversation::new(worker.alloc),
             desk: RedisDesk::new(worker.alloc, worker.map, scripts, state.at(number)),
             piece: [0; PIECE_BYTES],
+            count: 0,
             counts: state.counts_of(number),
             now: 0,
         },

@@ -9,7 +9,7 @@ ghost use Rattle.crews.specs.Partings.{SaysSo, PartsSo};
 ghost use Rattle.crews.specs.Arrivals.{CountGoes};
 ghost use Rattle.crews.specs.Lives.{Arrival, Known, known, Turn, Stands};
 ghost use Rattle.crews.specs.Seats.{IsClient};
-ghost use Rattle.crews.specs.Turns.{SaysMore, TurnsTo};
+ghost use Rattle.crews.specs.Turns.{SaysAndSends, TurnsTo};
 
 use crate::answering::{PIECE_BYTES, Room, answer_commands, answer_frames};
 use crate::clients::{Clients, Parting, Standing};
@@ -27,7 +27,7 @@ use std::thread::Threads;
 const OWED_BYTES: usize = 65536;
 
 /// What each client takes in the worker's seats and in the list of clients, about.
-const CLIENT_BYTES: usize = 900;
+const CLIENT_BYTES: usize = 700;
 
 /// A client between its turns: its number among the worker's clients, its connection, how it speaks and what of that was read, the
 /// tokens of its programs, what it is owed, and how it is leaving, if it is.
@@ -108,37 +108,35 @@ impl<'a, C: Channel> Client<'a, C> {
         kept.saturating_add(owed) as u64
     }
 
-    /// Answers what is whole in a piece of this number of bytes, and owes the answers.
+    /// Answers what is whole in the piece in the room, and owes the answers; some may be sent before it ends.
     fn answer_piece<H: Threads + Wait + Sync, G: Gate + Sync>(
         &mut self,
         worker: &Worker<'_, H, G>,
         room: &mut Room<'a, '_>,
-        count: usize,
     )
         requires unfailed { self.old.owed.failures ≡ 0 }
-        requires some { 1 ≤ count }
-        requires within { count ≤ length room.old.piece }
+        requires some { 1 ≤ room.old.count }
+        requires within { room.old.count ≤ length room.old.piece }
         requires desk { room.old.serving.pass.map ≡ room.old.desk }
         requires is_open { IsOpen self.old.talk }
         ensures number { self.new.number ≡ self.old.number }
-        ensures channel { self.new.channel ≡ self.old.channel }
         ensures desk { room.new.desk ≡ room.old.desk }
         ensures speaks { protocol_of self.new.talk ≡ protocol_of self.old.talk }
         ensures unfailed { self.new.leaving ≡ None → self.new.owed.failures ≡ 0 }
         ensures says { (password : Option (List ℕ)) (exchanges : List (TheExchange Station)) (read said : List ℕ) → SaysSo password None self.old.talk exchanges read said
-            → SaysMore password (known room.old.serving) (known room.new.serving) exchanges self.old.tokens self.new.tokens
-            self.new.talk self.new.leaving (read ++ take count room.old.piece) said self.old.owed.rest self.new.owed.rest }
+            → SaysAndSends (C.state self.old.channel) (C.state self.new.channel) password (known room.old.serving) (known room.new.serving) exchanges self.old.tokens self.new.tokens
+            self.new.talk self.new.leaving (read ++ take room.old.count room.old.piece) said self.old.owed self.new.owed }
     {
         self.leaving = match &mut self.talk {
             Talk::Frames(feeder) => answer_frames(
                 worker,
                 room,
-                count,
                 feeder,
                 &mut self.tokens,
                 &mut self.owed,
+                &mut self.channel,
             ),
-            Talk::Commands(talk) => answer_commands(worker.rt, room, count, talk, &mut self.owed),
+            Talk::Commands(talk) => answer_commands(worker.rt, room, talk, &mut self.owed),
         };
     }
 
@@ -183,8 +181,9 @@ impl<'a, C: Channel> Client<'a, C> {
         }
         match self.channel.receive(&mut room.piece) {
             Received::Bytes(count) => {
+                room.count = count;
                 room.now = time_of(clients, &self.talk);
-                self.answer_piece(worker, room, count);
+                self.answer_piece(worker, room);
                 standing_after_piece(count)
             }
             Received::NotNow => Standing::Waits,

@@ -5,3 +5,4 @@ pub mod SendingLemmas
 pub mod RequestLemmas
 pub mod UnsentLemmas
 pub mod OwedLemmas
+pub mod PartLemmas

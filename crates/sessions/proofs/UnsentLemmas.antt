@@ -7,7 +7,8 @@ use Rattle.bins.specs.Entries.{entry_of}
 use Rattle.bins.specs.Table.{Entry}
 use Rattle.client_protocol.specs.Frames.{length_bytes}
 use Rattle.client_protocol.specs.Responses.{response_body, response_frame, response_frames}
-use Rattle.sessions.specs.Answering.{item_of, end_of}
+use Rattle.sessions.specs.Answering.{item_of, end_of, walk_responses}
+use Rattle.sessions.proofs.AnsweringLemmas.{walk_frames}
 use Rattle.sessions.specs.Unsent.{item_frames_from, frames_from}
 
 -- the next item is at the front of those that are left
@@ -41,3 +42,8 @@ frame_some response = omega (arith, length-append (length_bytes (length (respons
 pub frames_some : (reply : WalkReply) (next : ℕ) → 1 ≤ length (frames_from reply next)
 frames_some reply next =
     omega (arith, length-append (item_frames_from reply.items next) (response_frame (end_of reply.counts)), frame_some (end_of reply.counts))
+
+-- the frames of a whole reply, too
+pub reply_some : (reply : WalkReply) → 1 ≤ length (response_frames (walk_responses reply))
+reply_some reply =
+    omega (arith, ap length (walk_frames reply.items (end_of reply.counts)), length-append (response_frames (map item_of reply.items)) (response_frame (end_of reply.counts)), frame_some (end_of reply.counts))

@@ -1,5 +1,5 @@
 //! The answers that a client's connection has not taken yet.
-ghost use Rattle.std.specs.Prelude.{◌≡◌, ◌+◌, ◌++◌, ◌↔◌, [], Err, IsErr, IsTrue, OnOk, OnErr};
+ghost use Rattle.std.specs.Prelude.{◌≡◌, ◌+◌, ◌++◌, ◌↔◌, [], Err, IsTrue, OnOk, OnErr};
 ghost use Rattle.atomic_methods.specs.declared.walk_reply.WalkReply.{WalkReply as TheReply};
 ghost use Rattle.client_protocol.specs.Responses.{response_frames};
 ghost use Rattle.devices.specs.Channels.{TakesOwed};
@@ -27,7 +27,7 @@ const MOST_CHUNKS: usize = 16;
 pub struct OwedAnswers {
     alloc: Global,
     front: Owed,
-    reply: Option<Box<UnsentReply>>,
+    reply: Option<UnsentReply>,
     back: Owed,
     failures: u64,
 }
@@ -84,7 +84,7 @@ impl OwedAnswers {
 
     /// Returns about how many bytes are kept.
     pub fn bytes(&self) -> usize {
-        let reply = self.reply.as_ref().map_or(0, |reply| reply.bytes());
+        let reply = self.reply.as_ref().map_or(0, UnsentReply::bytes);
         let made = self.front.len().saturating_add(self.back.len());
         made.saturating_add(reply)
     }
@@ -112,21 +112,20 @@ impl OwedAnswers {
         let Ok(()) = self.front.reserve(ROOM_BYTES) else {
             return Err(NotKept::NoMemory);
         };
-        let Ok(unsent) = Box::new(self.alloc, UnsentReply::new(reply)) else {
+        let Ok(unsent) = UnsentReply::new(self.alloc, reply) else {
             return Err(NotKept::NoMemory);
         };
         self.reply = Some(unsent);
         Ok(())
     }
 
-    /// A write fails, and takes nothing.
-    fn fail<T>(&mut self) -> Result<T, Failed>
+    /// Counts a write that fails, and took nothing.
+    fn fail(&mut self) -> Failed
         requires { CanWrite (sink_of self.old) }
-        ensures fails { IsErr result }
-        ensures kept { self.new ≡ record { rest = self.old.rest; failures = self.old.failures + 1 } }
+        ensures { self.new ≡ record { rest = self.old.rest; failures = self.old.failures + 1 } }
     {
         self.failures += 1;
-        Err(Failed)
+        Failed
     }
 
     /// Owes the frames of this reply after all other bytes. If they are many, and no other reply is owed, they are made later, and all
@@ -139,7 +138,7 @@ impl OwedAnswers {
         match self.keep(reply) {
             Ok(()) => Ok(()),
             Err(NotKept::Back(reply)) => send_whole(self, &reply),
-            Err(NotKept::NoMemory) => self.fail(),
+            Err(NotKept::NoMemory) => Err(self.fail()),
         }
     }
 
@@ -210,7 +209,7 @@ impl Sink for OwedAnswers {
     fn write(&mut self, bytes: &[u8]) -> Result<usize, Failed> {
         match self.append(bytes) {
             Ok(()) => Ok(bytes.len()),
-            Err(_) => self.fail(),
+            Err(_) => Err(self.fail()),
         }
     }
 

@@ -80,7 +80,7 @@ pub fn run_session<
             }
             return SessionEnd::Closed;
         }
-        match conversation.take::<S, F, W, AtOnce>(alloc, state, answer, &piece[..n], writer) {
+        match conversation.take::<S, F, W, AtOnce>(state, answer, &piece[..n], writer) {
             Ok(()) => {}
             Err(ConversationEnd::Refused(fault)) => {
                 return refuse(writer, fault.number(), SessionEnd::Refused(fault));

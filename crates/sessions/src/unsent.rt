@@ -1,5 +1,5 @@
 //! The reply of a walk, as frames that are made a few at a time.
-ghost use Rattle.std.specs.Prelude.{◌≡◌, ◌≢◌, ◌≤◌, ◌<◌, ◌++◌, true, length, OnOk, OnErr};
+ghost use Rattle.std.specs.Prelude.{◌≡◌, ◌≢◌, ◌≤◌, ◌<◌, ◌++◌, true, length, IfOk, OnOk, OnErr};
 ghost use Rattle.bins.specs.Entries.{entry_of};
 ghost use Rattle.client_protocol.specs.Responses.{response_frame, response_frames};
 ghost use Rattle.sessions.specs.Answering.{item_of, walk_responses};
@@ -10,7 +10,7 @@ use atomic_methods::WalkReply;
 use bins::MergedEntries;
 use client_protocol::item_head;
 use devices::Owed;
-use std::alloc::AllocError;
+use std::alloc::{AllocError, Global};
 use std::marker::Model;
 
 /// Frames are made until this many bytes are owed.
@@ -28,7 +28,7 @@ pub const ROOM_BYTES: usize = CHUNK_BYTES + LAST_BYTES;
 /// The frames of a walk's reply that are not made yet: at least that of its end.
 #[derive(Drop)]
 pub struct UnsentReply {
-    reply: WalkReply,
+    reply: Box<WalkReply>,
     next: usize,
     bytes: usize,
 }
@@ -39,9 +39,9 @@ impl Model for UnsentReply {
 
     ghost Value = { List ℕ };
 
-    ghost view = { λ u. frames_from u.reply u.next };
+    ghost view = { λ u. frames_from u.reply.value u.next };
 
-    ghost invariant = { λ u. u.next ≤ length u.reply.items };
+    ghost invariant = { λ u. u.next ≤ length u.reply.value.items };
 }
 
 /// Returns about how many bytes the items take in memory.
@@ -82,17 +82,17 @@ fn owe_items(items: &MergedEntries, next: &mut usize, owed: &mut Owed) -> Result
 }
 
 impl UnsentReply {
-    /// Begins with the whole reply. Takes no memory.
-    pub fn new(reply: WalkReply) -> UnsentReply
-        ensures whole { result ≡ response_frames (walk_responses reply) }
-        ensures some { 1 ≤ length result }
+    /// Begins with the whole reply. If a request for memory is refused, the reply is given up.
+    pub fn new(alloc: Global, reply: WalkReply) -> Result<UnsentReply, AllocError>
+        ensures whole { IfOk result (λ unsent. unsent ≡ response_frames (walk_responses reply)) }
+        ensures some { IfOk result (λ unsent. 1 ≤ length unsent) }
     {
         let bytes = bytes_of(&reply.items);
-        UnsentReply {
-            reply,
+        Ok(UnsentReply {
+            reply: Box::new(alloc, reply)?,
             next: 0,
             bytes,
-        }
+        })
     }
 
     /// Returns about how many bytes are kept, with the room for frames.
@@ -107,11 +107,12 @@ impl UnsentReply {
         ensures more { result ≢ Ok true → owed.new ++ self.new ≡ owed.old ++ self.old }
         ensures some { 1 ≤ length self.new }
     {
-        owe_items(&self.reply.items, &mut self.next, owed)?;
-        if self.next < self.reply.items.len() {
+        let reply = &*self.reply;
+        owe_items(&reply.items, &mut self.next, owed)?;
+        if self.next < reply.items.len() {
             return Ok(false);
         }
-        owed.append(end_of(self.reply.counts).frame().as_slice())?;
+        owed.append(end_of(reply.counts).frame().as_slice())?;
         Ok(true)
     }
 }

@@ -1,18 +1,22 @@
 //! A session between two of its reads, and how it answers the next piece.
-ghost use Rattle.std.specs.Prelude.{◌≡◌, ◌≢◌, ℕ, ◌++◌, List, [], None, Some, IsSome, OnOk, OnErr, flat_map};
+ghost use Rattle.std.specs.Prelude.{◌≡◌, ◌≢◌, ◌≤◌, ℕ, ◌++◌, List, [], length, None, Some, IsSome, IfOk, OnOk, OnErr, flat_map};
 ghost use Rattle.client_protocol.specs.declared.fault.ProtocolFault.{ProtocolFault as TheFault};
 ghost use Rattle.client_protocol.specs.Requests.{Request as TheRequest};
 ghost use Rattle.client_protocol.specs.Frames.{Held, Frames, held_fault, is_inside};
 ghost use Rattle.client_protocol.specs.Frames.Held.{open_at};
-ghost use Rattle.sessions.specs.Answering.{Answered, BreaksOff};
-ghost use Rattle.sessions.specs.Conversations.{AnswersBy, AnswersPiece, BreaksPiece, Exchange, Converses, AnsweredInEach};
+ghost use Rattle.sessions.specs.Answering.{Answered, BreaksOff, hello_behind};
+ghost use Rattle.sessions.specs.Conversations.{AnswersBy, AnswersPiece, BreaksPiece, TakesPiece, Exchange, Converses, AnsweredInEach};
+ghost use Rattle.sessions.specs.OwedAnswers.{OwedState, IsSent, sink_of};
 ghost use Rattle.devices.specs.Devices.{CanWrite, TakesBytes, TakesThenFails};
 
+use crate::owed_answers::{OwedAnswers, WhenTaken};
 use crate::session::send::{Replies, send};
 use crate::session::service::{Answer, Service};
 use bpf_model::Value;
-use client_protocol::{Feeder, ProtocolFault, Request, Requests, Version, hello_after};
-use devices::{Failed, Sink};
+use client_protocol::{
+    Feeder, ProtocolFault, Request, RequestView, Requests, Version, hello_after,
+};
+use devices::{Channel, Failed, Sink};
 use std::alloc::Global;
 use std::marker::Model;
 use std::mem;
@@ -28,10 +32,18 @@ pub enum ConversationEnd {
     WriteFailed,
 }
 
+/// Requests that follow one another, and the Hello that came before them.
+#[derive(Clone, Copy)]
+struct Came<'r> {
+    hello: Option<Version>,
+    requests: &'r [Request],
+}
+
 /// A session between two reads: the Hello that was taken and the beginning of a frame, or the fault of the input. The next
 /// piece uses the room for requests and for a value again.
 #[derive(Drop)]
 pub struct Conversation {
+    alloc: Global,
     feeder: Feeder,
     requests: Requests,
     value: Value,
@@ -51,6 +63,7 @@ impl Conversation {
         ensures { result ≡ open_at None [] }
     {
         Conversation {
+            alloc,
             feeder: Feeder::new(alloc),
             requests: Requests::new(alloc),
             value: Value::new(),
@@ -83,7 +96,6 @@ impl Conversation {
         K: Replies<W>,
     >(
         &mut self,
-        alloc: Global,
         state: &mut S,
         answer: &F,
         piece: &[u8],
@@ -109,12 +121,50 @@ impl Conversation {
             × BreaksPiece S.answers self.old state.old piece.now written self.new state.new) }
     {
         let hello = self.feeder.hello();
-        let Ok(fault) = self.feeder.feed_into(alloc, piece, &mut self.requests) else {
+        let Ok(fault) = self.feeder.feed_into(self.alloc, piece, &mut self.requests) else {
             return Err(ConversationEnd::NoMemory);
         };
-        let came = self.requests.as_slice();
-        let Ok(()) = answer_all::<S, F, W, K>(state, answer, hello, came, &mut self.value, sink)
-        else {
+        let requests = self.requests.as_slice();
+        let came = Came { hello, requests };
+        let Ok(_) = answer_all::<S, F, W, K>(state, answer, came, &mut self.value, sink) else {
+            return Err(ConversationEnd::WriteFailed);
+        };
+        match fault {
+            Some(fault) => Err(ConversationEnd::Refused(fault)),
+            None => Ok(()),
+        }
+    }
+
+    /// As `take`, for answers that are owed to a connection: before each walk it sends what is owed, as far as the connection takes
+    /// it then.
+    pub fn take_and_send<
+        S: Service,
+        F: Fn(&mut S, Option<Version>, &Request, &mut Value) -> Answer,
+        C: Channel,
+    >(
+        &mut self,
+        state: &mut S,
+        answer: &F,
+        piece: &[u8],
+        owed: &mut OwedAnswers,
+        channel: &mut C,
+    ) -> Result<(), ConversationEnd>
+        requires answer { AnswersBy F.Fn answer.now S.answers }
+        requires sink { CanWrite (sink_of owed.old) }
+        ensures unfailed { result ≢ Err ConversationEnd.WriteFailed → owed.new.failures ≡ owed.old.failures }
+        ensures taken { (whole : OwedState) × IsSent (C.state channel.old) (C.state channel.new) whole owed.new
+            × TakesPiece S.answers result self.old state.old piece.now (sink_of owed.old) (sink_of whole) self.new state.new }
+    {
+        let before = self.feeder.hello();
+        let Ok(fault) = self.feeder.feed_into(self.alloc, piece, &mut self.requests) else {
+            return Err(ConversationEnd::NoMemory);
+        };
+        let requests = self.requests.as_slice();
+        let came = Came {
+            hello: before,
+            requests,
+        };
+        let Ok(_) = answer_in_parts(state, answer, came, &mut self.value, owed, channel) else {
             return Err(ConversationEnd::WriteFailed);
         };
         match fault {
@@ -124,8 +174,8 @@ impl Conversation {
     }
 }
 
-/// Answers the requests, which came after this Hello, in order: each answer is written before the next request is looked at.
-/// Found values are left in `value`, one after the other.
+/// Answers the requests, in order: each answer is written before the next request is looked at. Found values are left in `value`, one
+/// after the other. Returns the Hello that was taken then.
 fn answer_all<
     S: Service,
     F: Fn(&mut S, Option<Version>, &Request, &mut Value) -> Answer,
@@ -134,25 +184,88 @@ fn answer_all<
 >(
     state: &mut S,
     answer: &F,
-    hello: Option<Version>,
-    requests: &[Request],
+    came: Came<'_>,
     value: &mut Value,
     sink: &mut W,
-) -> Result<(), Failed>
+) -> Result<Option<Version>, Failed>
     requires answer { AnswersBy F.Fn answer.now S.answers }
     requires sink { CanWrite (W.state sink.old) }
     ensures ok { OnOk result ((written : List ℕ)
         × TakesBytes (W.state sink.old) (W.state sink.new) written
-        × Answered S.answers hello state.old requests.now written state.new) }
+        × Answered S.answers came.entry.hello state.old came.entry.requests.now written state.new) }
+    ensures hello { IfOk result (λ hello. hello ≡ hello_behind came.entry.hello came.entry.requests.now) }
     ensures err { OnErr result ((written : List ℕ)
         × TakesThenFails (W.state sink.old) (W.state sink.new) written
-        × BreaksOff S.answers hello state.old requests.now written state.new) }
+        × BreaksOff S.answers came.entry.hello state.old came.entry.requests.now written state.new) }
 {
-    let mut hello = hello;
-    for request in requests {
+    let mut hello = came.hello;
+    for request in came.requests {
         let answered = answer(state, hello, request, value);
         send::<W, K>(sink, hello, answered, value)?;
         hello = hello_after(hello, request);
+    }
+    Ok(hello)
+}
+
+/// Tests whether a request is a walk with a program. What was answered before is sent before it begins.
+fn is_walk(request: &Request) -> bool {
+    matches!(
+        request.view(),
+        RequestView::Search { .. } | RequestView::ForEach { .. } | RequestView::ReplaceAll { .. }
+    )
+}
+
+/// Returns how many of the requests, of which there is at least one, come before the next walk; the first of them may be one.
+fn until_walk(requests: &[Request]) -> usize
+    requires { 1 ≤ length requests.now }
+    ensures some { 1 ≤ result }
+    ensures within { result ≤ length requests.now }
+{
+    for count in 1..requests.len() {
+        if is_walk(&requests[count]) {
+            return count;
+        }
+    }
+    requests.len()
+}
+
+/// Answers the requests as `answer_all` does, and sends what is owed before each walk, as far as the connection takes it then.
+fn answer_in_parts<
+    S: Service,
+    F: Fn(&mut S, Option<Version>, &Request, &mut Value) -> Answer,
+    C: Channel,
+>(
+    state: &mut S,
+    answer: &F,
+    came: Came<'_>,
+    value: &mut Value,
+    owed: &mut OwedAnswers,
+    channel: &mut C,
+) -> Result<(), Failed>
+    requires answer { AnswersBy F.Fn answer.now S.answers }
+    requires sink { CanWrite (sink_of owed.old) }
+    ensures ok { OnOk result ((whole : OwedState) × IsSent (C.state channel.old) (C.state channel.new) whole owed.new × ((written : List ℕ)
+        × TakesBytes (sink_of owed.old) (sink_of whole) written
+        × Answered S.answers came.entry.hello state.old came.entry.requests.now written state.new)) }
+    ensures err { OnErr result ((whole : OwedState) × IsSent (C.state channel.old) (C.state channel.new) whole owed.new × ((written : List ℕ)
+        × TakesThenFails (sink_of owed.old) (sink_of whole) written
+        × BreaksOff S.answers came.entry.hello state.old came.entry.requests.now written state.new)) }
+{
+    let mut rest = came;
+    while !rest.requests.is_empty() {
+        if is_walk(&rest.requests[0]) {
+            let _ = owed.send_to(channel);
+        }
+        let (part, later) = rest.requests.split_at(until_walk(rest.requests));
+        let part = Came {
+            hello: rest.hello,
+            requests: part,
+        };
+        let hello = answer_all::<S, F, OwedAnswers, WhenTaken>(state, answer, part, value, owed)?;
+        rest = Came {
+            hello,
+            requests: later,
+        };
     }
     Ok(())
 }

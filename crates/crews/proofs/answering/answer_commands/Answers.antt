@@ -11,7 +11,7 @@ pub returns-clause-says : goal.returns-clause-says
 returns-clause-says g c password exchanges tokens read said says =
     let old = c.args.room.now.serving in
     let owed = c.args.owed.now in
-    let piece = take c.args.count c.args.room.now.piece in
+    let piece = take c.args.room.now.count c.args.room.now.piece in
     let new = c.answer_commands-taken.new.self in
     let next = c.answer_commands-taken.new.talk in
     let left = c.leaving_talk.new.owed in

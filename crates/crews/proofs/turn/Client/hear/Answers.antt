@@ -55,6 +55,5 @@ returns-in-Bytes-clause-turns g c registry password came exchanges stands =
     let none : s.leaving ≡ None = none_leaving s.leaving c.is_some.result c.is_some.ensures c.if-is_some.false in
     let here = subst (λ (l : Option Parting). Stands state registry password came s.channel exchanges s.tokens s.talk s.owed l) none stands in
     let (some, within, consumed, kept) = c.in-Bytes.ensures in
-    rw c.answer_piece.ensures.channel
-    (turns_by_piece state registry password (known c.args.room.now.serving) (known c.answer_piece.new.room.serving) came s.channel c.receive.new.self exchanges s.tokens a.tokens s.talk a.talk s.owed a.owed a.leaving
-    (take c.in-Bytes.count c.receive.new.room) consumed kept (c.answer_piece.ensures.says password exchanges) c.answer_piece.ensures.speaks c.answer_piece.ensures.unfailed here)
+    turns_by_piece state registry password (known c.args.room.now.serving) (known c.answer_piece.new.room.serving) came s.channel c.receive.new.self a.channel exchanges s.tokens a.tokens s.talk a.talk s.owed a.owed a.leaving
+    (take c.in-Bytes.count c.receive.new.room) consumed kept (c.answer_piece.ensures.says password exchanges) c.answer_piece.ensures.speaks c.answer_piece.ensures.unfailed here

@@ -6,5 +6,5 @@ use Rattle.sessions.proofs.session.conversation.answer_all.Given as goal
 
 abbrev pub invariant-loop-request : goal.invariant-loop-request
 invariant-loop-request g l =
-    (l.hello ≡ hello_behind l.fn.hello (take l.request-index l.requests)) × ((written : List ℕ) × TakesBytes (g.W.Sink.state l.fn.sink) (g.W.Sink.state l.sink) written
-    × Answered g.S.Service.answers l.fn.hello l.fn.state (take l.request-index l.requests) written l.state)
+    (l.hello ≡ hello_behind l.fn.came.hello (take l.request-index l.fn.came.requests.now)) × ((written : List ℕ) × TakesBytes (g.W.Sink.state l.fn.sink) (g.W.Sink.state l.sink) written
+    × Answered g.S.Service.answers l.fn.came.hello l.fn.state (take l.request-index l.fn.came.requests.now) written l.state)
