@@ -162,16 +162,19 @@ def try_walks(program: Path) -> None:
 
 
 def try_unread(program: Path) -> None:
-    """A client asks for an answer at each entry, and reads none. The server has the answers once, and makes their frames when the client reads.
-    Meanwhile another client of the same worker is served."""
+    """A client asks for one entry, and then for an answer at each, and reads none of these. The first answer comes before the walk. The server has
+    the walk's answers once, and makes their frames when the client reads. Meanwhile another client of the same worker is served."""
+    key, value = scattered(0, 16), wire.value(bytes(100))
     with Session(program) as session, wire.opened(session.server.address, 2) as other:
         session.put(range(WALKED), 16, 100)
         if session.client.ask(wire.register((64, 256, 0, 96), COPYING)) != b"\x81" + wire.number_field(0):
             raise wire.Wrong("the program that copies its value is refused")
         before = session.begin()
-        session.client.send(wire.walk(FOR_EACH, 0, None))
+        session.client.send(wire.get(key), wire.walk(FOR_EACH, 0, None))
+        if session.client.socket.recv(WALKED, socket.MSG_PEEK) != wire.frame(value) or session.client.answer() != value:
+            raise wire.Wrong("the answer to a Get waits for the walk after it")
         session.client.socket.recv(1, socket.MSG_PEEK)
-        if other.ask(wire.get(scattered(0, 16))) != wire.value(bytes(100)):
+        if other.ask(wire.get(key)) != value:
             raise wire.Wrong("a client is not served while another doesn't read its reply")
         took = session.resident("VmHWM") - before
         most(f"MiB more for an answer at each of {WALKED} entries that isn't read", took / MEBIBYTE, UNREAD_MIB)
