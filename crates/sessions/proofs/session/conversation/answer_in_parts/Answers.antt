@@ -1,4 +1,3 @@
-use Rattle.std.proofs.Common.{◌≡◌}
 use Rattle.std.proofs.lemmas.Result.{err_from_is_err_and}
 use Rattle.sessions.proofs.PartLemmas.{AnsweredSoFar, none_so_far, sent_more, part_answered, part_broken}
 use Rattle.sessions.proofs.session.conversation.answer_in_parts.Goals as goal
