@@ -1,5 +1,5 @@
 -- What crews make in their lives, and what two joined crews then have seen.
-use Rattle.std.proofs.Common.{◌≡◌, ◌⊎◌, ◌==◌, if◌then◌else◌, inl, inr, ℕ, ◌<◌, List, [], ◌∷◌, ◌++◌, map, Bool, true, false, Option, Some, None, refl, sym, ap, subst, ◌∙◌, append-nil, eq-eqb}
+use Rattle.std.proofs.Common.{◌≡◌, ◌⊎◌, ◌==◌, if◌then◌else◌, inl, inr, ℕ, ◌<◌, List, [], ◌∷◌, ◌++◌, map, Bool, true, false, Option, Some, None, refl, sym, ap, subst, ◌∙◌, eq-eqb}
 use Rattle.stripe_rule.specs.Gains.{IsJoined}
 use Rattle.bin_stripes.specs.Histories.{own_events, Sound}
 use Rattle.bin_stripes.specs.Passes.{PassState, stripes_of}

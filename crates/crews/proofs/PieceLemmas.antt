@@ -14,7 +14,7 @@ use Rattle.redis_service.specs.Talks.{TalkState, begun}
 use Rattle.redis_service.specs.declared.desk.TalkEnd.{TalkEnd}
 use Rattle.redis_service.specs.declared.desk.TalkEnd.TheVariants as talk_end
 use Rattle.sessions.specs.Answering.{IsFront}
-use Rattle.sessions.specs.Conversations.{AnswersPiece, BreaksPiece, TakesPiece, Exchange}
+use Rattle.sessions.specs.Conversations.{AnswersPiece, TakesPiece, Exchange}
 use Rattle.sessions.specs.OwedAnswers.{OwedState, IsSent, sink_of}
 use Rattle.sessions.proofs.PartLemmas.{sent_before}
 use Rattle.sessions.specs.Sessions.{refusal}
