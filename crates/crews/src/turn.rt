@@ -109,7 +109,6 @@ impl<'a, C: Channel> Client<'a, C> {
     }
 
     /// Answers what is whole in the piece in the room, and owes the answers; some may be sent before it ends.
-    #[tactic(auto, using(crate::proofs::TurnLemmas::sends_none))]
     fn answer_piece<H: Threads + Wait + Sync, G: Gate + Sync>(
         &mut self,
         worker: &Worker<'_, H, G>,
