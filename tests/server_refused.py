@@ -28,7 +28,8 @@ A, B, C, D, E = b"a", b"b", b"c", b"d", b"e"
 ONE, TWO = model.spelled(1), model.spelled(2)
 LONGEST = bytes(range(256)) * 4
 MOST_REQUESTS = 5000
-# A reply of more than 64 items is made as its client takes it.
+# A reply of more than 64 items is made as its client takes it, and all memory for it is asked for before. If that is refused, the change
+# after the walk must not be made.
 MANY = 70
 
 
@@ -70,7 +71,7 @@ SESSIONS: list[list[Asked]] = [
     [Call(model.GET, A), Call(model.PUT, B, value=b"z"), Count(), *walks(0, None), computed(A, 0), Call(model.GET, A)],
     [Register(model.ADD), Call(model.PUT, C, value=ONE), Call(model.PUT, D, value=TWO), *walks(1, ONE), Count()],
     [Register(model.TAKE), Call(model.PUT, E, value=LONGEST), Call(model.GET, E), *walks(2, LONGEST), Call(model.GET, A)],
-    [*(Call(model.PUT, b"%02d" % number, value=ONE) for number in range(MANY)), Walk(model.FOR_EACH, 1, ONE), Call(model.GET, A)],
+    [*(Call(model.PUT, b"%02d" % number, value=ONE) for number in range(MANY)), Walk(model.FOR_EACH, 1, ONE), Call(model.PUT, A, value=TWO)],
     [Call(model.GET, key) for key in (A, B, C, D, E)],
 ]
 OPTIONS = ["--workers", "1", "--team", "2", "--sessions", str(len(SESSIONS))]
