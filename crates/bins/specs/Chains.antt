@@ -22,9 +22,8 @@ pub record AreSpread (half bins : ℕ) : Type 0 where
   pub most : bins ≤ 2 * half
   pub bounded : half ≤ MOST_HALF
 
--- the hashes at positions, by this seed and in their order, and the stripes and bins that are reported of them
+-- the hashes at positions, by this seed and in their order, and the bins that are reported of them
 pub record PlacedHashes : Type 0 where
-  pub stripes : ℕ
   pub bins : ℕ
   pub seed : Seed
   pub hashes : List ℕ

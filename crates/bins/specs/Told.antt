@@ -6,7 +6,3 @@ use Rattle.bins.specs.declared.told_size.TheConstants.{FIRST_BINS, MOST_BINS}
 -- there may be this many bins
 abbrev pub IsBinCount : ℕ → Type 0
 IsBinCount bins = IsPowerOfTwo bins × (FIRST_BINS ≤ bins) × (bins ≤ MOST_BINS)
-
-pub record ToldNumbers : Type 0 where
-  pub bins : ℕ
-  pub stripes : ℕ

@@ -22,8 +22,8 @@ pub trait Bins {
     /// The entries, as one map.
     ghost table: { Self → Table };
 
-    /// Makes bins without entries, for one of a table's `stripes` stripes. Returns `NoMemory` if a request for memory is
-    /// refused.
+    /// Makes bins without entries, for one of a table's `stripes` stripes: bins of a kind may depend on that number, but those
+    /// here don't. Returns `NoMemory` if a request for memory is refused.
     fn open(alloc: Global, stripes: u64) -> Result<Self, NoMemory>
         ensures ok { IfOk result (λ bins. table bins ≡ map.empty) };
 

@@ -53,6 +53,11 @@ impl EntryList {
         self.rows.len()
     }
 
+    /// Returns how many bytes the list takes, with room that it doesn't use. Takes no memory.
+    pub fn bytes(&self) -> usize {
+        self.rows.bytes()
+    }
+
     /// Returns whether there is no entry. Takes no memory.
     pub fn is_empty(&self) -> bool
         ensures exact { IsTrue result ↔ (length self.now ≡ 0) }

@@ -80,13 +80,6 @@ impl HashedBins {
         self.finder.bins()
     }
 
-    /// Returns the number of stripes that it was opened for. Takes no memory.
-    pub fn stripes(&self) -> u64
-        ensures power { IsPowerOfTwo result }
-    {
-        self.finder.stripes()
-    }
-
     /// Returns how many bytes rows and index take: what their lists have room for, and the bytes of segments that were
     /// touched so far. Takes no memory.
     pub fn bytes(&self) -> u64 {
@@ -179,9 +172,9 @@ impl Bins for HashedBins {
         HashedBins::open_with(alloc, stripes, &Opening::seeded(Seed::fixed()))
     }
 
-    fn open_with(alloc: Global, stripes: u64, opening: &Opening) -> Result<HashedBins, NoMemory> {
+    fn open_with(alloc: Global, _stripes: u64, opening: &Opening) -> Result<HashedBins, NoMemory> {
         Ok(HashedBins {
-            finder: Finder::open(alloc, stripes, opening.seed)?,
+            finder: Finder::open(alloc, opening.seed)?,
             rows: Rows::new(alloc),
             budget: opening.budget,
             _gap: [0; 8],
@@ -346,12 +339,11 @@ fn found_by<'a>(tree: &Tree, rows: &'a Rows, key: &Key) -> Option<Found<'a>>
 }
 
 impl Finder {
-    /// Makes a finder of no keys, for one of a table's `stripes` stripes; it hashes keys by this seed. Returns `NoMemory` if
-    /// a request for memory is refused.
-    pub(crate) fn open(alloc: Global, stripes: u64, seed: Seed) -> Result<Finder, NoMemory>
+    /// Makes a finder of no keys, which hashes keys by this seed. Returns `NoMemory` if a request for memory is refused.
+    pub(crate) fn open(alloc: Global, seed: Seed) -> Result<Finder, NoMemory>
         ensures ok { IfOk result (λ finder. Finds finder []) }
     {
-        let index = Index::open(alloc, ToldSize::new(stripes), seed)?;
+        let index = Index::open(alloc, ToldSize::new(), seed)?;
         Ok(Finder::Hashes(index))
     }
 
@@ -362,16 +354,6 @@ impl Finder {
         match self {
             Finder::Hashes(index) => index.bins(),
             Finder::Keys(tree) => tree.bins(),
-        }
-    }
-
-    /// Returns the number of stripes of the table. Takes no memory.
-    pub(crate) fn stripes(&self) -> u64
-        ensures power { IsPowerOfTwo result }
-    {
-        match self {
-            Finder::Hashes(index) => index.stripes(),
-            Finder::Keys(tree) => tree.stripes(),
         }
     }
 

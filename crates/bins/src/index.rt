@@ -40,8 +40,7 @@ impl Model for Index {
     ghost Value = { PlacedHashes };
 
     ghost view = { λ index. record {
-      stripes = index.told.stripes;
-      bins = index.told.bins;
+      bins = index.told;
       seed = index.seed;
       hashes = index.chains.records.hashes;
     } };
@@ -54,8 +53,7 @@ impl Index {
     /// refused.
     pub fn open(alloc: Global, told: ToldSize, seed: Seed) -> Result<Index, NoMemory>
         ensures hashes { IfOk result (λ index. index.hashes ≡ []) }
-        ensures bins { IfOk result (λ index. index.bins ≡ told.bins) }
-        ensures stripes { IfOk result (λ index. index.stripes ≡ told.stripes) }
+        ensures bins { IfOk result (λ index. index.bins ≡ told) }
         ensures seed { IfOk result (λ index. index.seed ≡ seed) }
     {
         Ok(Index {
@@ -68,18 +66,9 @@ impl Index {
 
     /// Returns the reported size. Takes no memory.
     pub fn told(&self) -> ToldSize
-        ensures bins { result.bins ≡ self.now.bins }
-        ensures stripes { result.stripes ≡ self.now.stripes }
+        ensures bins { result ≡ self.now.bins }
     {
         self.told.copied()
-    }
-
-    /// Returns the number of stripes that it was opened for. Takes no memory.
-    pub fn stripes(&self) -> u64
-        ensures value { result ≡ self.now.stripes }
-        ensures power { IsPowerOfTwo result }
-    {
-        self.told.stripes()
     }
 
     /// Returns the allocator that memory for the index comes from.
@@ -133,7 +122,6 @@ impl Index {
     pub fn push(&mut self, hash: u64) -> Result<(), NoMemory>
         ensures ok { OnOk result (self.new.hashes ≡ self.old.hashes ++ hash ∷ []) }
         ensures err { OnErr result (self.new ≡ self.old) }
-        ensures stripes { self.new.stripes ≡ self.old.stripes }
         ensures seed { self.new.seed ≡ self.old.seed }
         ensures bins { OnOk result (MayDouble self.old self.new) }
         ensures crowded { OnOk result (IsCrowded self.old.bins self.new.hashes → self.new.bins ≡ 2 * self.old.bins) }
@@ -168,7 +156,6 @@ impl Index {
         requires { position < length self.old.hashes }
         ensures hashes { self.new.hashes ≡ swap_remove self.old.hashes position 0 }
         ensures bins { self.new.bins ≡ self.old.bins }
-        ensures stripes { self.new.stripes ≡ self.old.stripes }
         ensures seed { self.new.seed ≡ self.old.seed }
     {
         self.chains.swap_remove(position);

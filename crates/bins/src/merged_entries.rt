@@ -19,6 +19,9 @@ pub struct EntryPosition {
     pub position: usize,
 }
 
+/// What a position takes.
+const POSITION_BYTES: usize = 16;
+
 /// The source of the entries.
 #[derive(Drop)]
 enum Source {
@@ -80,6 +83,17 @@ impl MergedEntries {
         }
     }
 
+    /// Returns how many bytes the lists and the positions take, with room that they don't use. Takes no memory.
+    pub fn bytes(&self) -> usize {
+        match &self.source {
+            Source::One(list) => list.bytes(),
+            Source::Several(lists, positions) => {
+                let placed = positions.capacity().saturating_mul(POSITION_BYTES);
+                bytes_of(lists).saturating_add(placed)
+            }
+        }
+    }
+
     /// Returns the key and the value at a position. Takes no memory.
     #[inline(always)]
     pub fn get(&self, position: usize) -> (&[u8], &[u8])
@@ -130,6 +144,15 @@ impl MergedEntries {
         }
         Ok(copies)
     }
+}
+
+/// Returns how many bytes these lists take.
+fn bytes_of(lists: &[EntryList]) -> usize {
+    let mut bytes = 0usize;
+    for list in lists {
+        bytes = bytes.saturating_add(list.bytes());
+    }
+    bytes
 }
 
 /// Returns the key and the value at a position of several lists; no bytes if no entry stands there.

@@ -1,7 +1,6 @@
 //! The positions of the keys of rows, in a tree of the keys.
 ghost use Rattle.std.specs.Prelude.{◌≡◌, ◌≢◌, ◌<◌, ◌++◌, [], ◌∷◌, Some, length, map, IfOk, IsSome, OnOk, OnErr};
 ghost use Rattle.std.specs.List.{AllWithin, swap_remove};
-ghost use Rattle.std.specs.Int.{IsPowerOfTwo};
 ghost use Rattle.std.specs.BTreeMap.{get};
 ghost use Rattle.bins.specs.Mixed.{mixed};
 ghost use Rattle.bins.specs.Told.{IsBinCount};
@@ -84,7 +83,6 @@ impl Tree {
     pub(crate) fn of(index: &Index, rows: &Rows) -> Result<Tree, NoMemory>
         requires { StandOnce rows.now.keys }
         ensures locates { IfOk result (λ tree. Locates tree.positions rows.now.keys) }
-        ensures stripes { IfOk result (λ tree. tree.told.stripes ≡ index.now.stripes) }
     {
         Ok(Tree {
             positions: positions_by_key(index.alloc(), rows)?,
@@ -97,7 +95,7 @@ impl Tree {
 
     /// Returns how many bins an index would report. Takes no memory.
     pub(crate) fn bins(&self) -> u64
-        ensures value { result ≡ self.now.told.bins }
+        ensures value { result ≡ self.now.told }
         ensures count { IsBinCount result }
     {
         self.told.bins()
@@ -106,14 +104,6 @@ impl Tree {
     /// Returns how many bytes a tree of these keys may take.
     pub(crate) fn bytes_for(rows: &Rows) -> usize {
         rows.len().saturating_mul(KEY_TREE_BYTES)
-    }
-
-    /// Returns the number of stripes of the table. Takes no memory.
-    pub(crate) fn stripes(&self) -> u64
-        ensures value { result ≡ self.now.told.stripes }
-        ensures power { IsPowerOfTwo result }
-    {
-        self.told.stripes()
     }
 
     /// Returns the position of a key. Takes no memory.
@@ -131,7 +121,6 @@ impl Tree {
         requires new { AllWithin (λ k. k ≢ key.now) rows.now.keys 0 (length rows.now.keys) }
         ensures ok { OnOk result (Locates self.new.positions (rows.now.keys ++ key.now ∷ [])) }
         ensures err { OnErr result (Locates self.new.positions rows.now.keys) }
-        ensures stripes { self.new.told.stripes ≡ self.old.told.stripes }
     {
         let position = rows.len();
         add_position(&mut self.positions, key.copied(), position)?;
@@ -145,7 +134,6 @@ impl Tree {
         requires locates { Locates self.old.positions rows.now.keys }
         requires range { position < length rows.now.keys }
         ensures locates { Locates self.new.positions (swap_remove rows.now.keys position []) }
-        ensures stripes { self.new.told.stripes ≡ self.old.told.stripes }
     {
         let key = key_at(rows, position);
         let last = key_at(rows, rows.len() - 1);
@@ -157,7 +145,6 @@ impl Tree {
     /// refused, it is tried after as much again.
     pub(crate) fn is_outlived(&mut self, rows: &Rows) -> bool
         ensures positions { self.new.positions ≡ self.old.positions }
-        ensures stripes { self.new.told.stripes ≡ self.old.told.stripes }
     {
         let keys = rows.len();
         let far = is_far_from(self.made_with, keys);
@@ -171,7 +158,6 @@ impl Tree {
     /// refused.
     pub(crate) fn index(&self, rows: &Rows) -> Result<Index, NoMemory>
         ensures hashes { IfOk result (λ index. index.hashes ≡ map (mixed index.seed) rows.now.keys) }
-        ensures stripes { IfOk result (λ index. index.stripes ≡ self.now.told.stripes) }
     {
         let mut index = Index::open(self.alloc, self.told.copied(), self.seed.next())?;
         for position in 0..rows.len() {

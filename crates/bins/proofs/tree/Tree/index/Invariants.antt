@@ -6,5 +6,4 @@ use Rattle.bins.proofs.tree.Tree.index.Given as goal
 abbrev pub invariant-loop-position : goal.invariant-loop-position
 invariant-loop-position l = record {
   hashes : l.index.hashes ≡ map (mixed l.index.seed) (take l.position l.rows.keys);
-  stripes : l.index.stripes ≡ l.self.told.stripes;
 }
