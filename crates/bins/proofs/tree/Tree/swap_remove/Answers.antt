@@ -6,8 +6,8 @@ use Rattle.bins.proofs.FinderLemmas.{stands, swap_remove_default}
 use Rattle.bins.proofs.tree.Tree.swap_remove.Goals as goal
 
 -- the last key was moved, and then the key was removed
-pub returns-clause-locates : goal.returns-clause-locates
-returns-clause-locates c =
+pub returns : goal.returns
+returns c =
     let keys : List (List ℕ) = c.args.rows.now.keys in
     let key = c.key_at-key.result in
     let last = c.key_at-last.result in
