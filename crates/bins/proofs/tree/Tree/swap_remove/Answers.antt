@@ -16,5 +16,7 @@ returns c =
     let read : slice_get keys (c.len.result - 1) ≡ Some last = stands keys (c.len.result - 1) [] (omega (arith, c.len.ensures.value, c.requires.range)) ∙ ap Some (sym c.key_at-last.ensures) in
     let at_last : slice_get keys (length keys - 1) ≡ Some last = subst (λ (n : ℕ). slice_get keys (n - 1) ≡ Some last) c.len.ensures.value read in
     let moves = c.move_position.ensures (subst IsSome (sym (locates.has last (length keys - 1) at_last)) refl) in
-    subst (Locates c.remove.new.self) (swap_remove_default keys c.args.position last [] c.requires.range)
-    (locates_left c.args.self.now.positions c.move_position.new.positions c.remove.new.self keys key last c.args.position locates at at_last moves c.remove.ensures.updates.0)
+    record {
+      locates = subst (Locates c.remove.new.self) (swap_remove_default keys c.args.position last [] c.requires.range)
+          (locates_left c.args.self.now.positions c.move_position.new.positions c.remove.new.self keys key last c.args.position locates at at_last moves c.remove.ensures.updates.0);
+    }
