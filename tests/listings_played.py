@@ -287,6 +287,7 @@ def query(block: Block, tools: Tools) -> None:
 
 # A page, which of its blocks (`is_meant` of listings.py says how that reads), and what is done with them.
 PLAYED: list[tuple[str, str, Play]] = [
+    ("README.md", "cd crates/bpfmap && rt try -- run", prints("bytes 03 00 00 00 00 00 00 00\n")),
     ("README.md", "cd crates/mapd && rt try --seconds 3600 -- --listen 127.0.0.1:7070", serves),
     ("README.md", "rt ci", is_in_gate),
     ("crates/bpf_assembler/README.md", r'let program = assemble(alloc, "mov64 r0, 8\nexit\n")?;', same_text),

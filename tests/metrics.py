@@ -396,7 +396,7 @@ def bytes_by_kind(program: Path) -> None:
         with wire.opened(ports.frames, 2) as client, redis_wire.Client(ports.commands) as other, wire.opened(ports.frames, 2) as fresh:
             other.ask("PING")
             kept = bytes_of(ports.metrics)["sessions"]
-            same("what is kept for three clients", 2100 <= kept < 100_000, True)
+            same("what is kept for three clients", 2550 <= kept < 100_000, True)
             more = more_bytes(ports.metrics, lambda: [client.ask(wire.put(b"%d" % number, value)) for number in range(many)])
             same("entries", (more["rows"] >= many * len(value), more["rows"] < 3 * many * len(value), 8 * many < more["index"] < 100 * many), (True, True, True))
             more = more_bytes(ports.metrics, lambda: [other.ask("EXPIRE", b"%d" % number, "3600") for number in range(many)])

@@ -27,7 +27,7 @@ use std::thread::Threads;
 const OWED_BYTES: usize = 65536;
 
 /// What each client takes in the worker's seats and in the list of clients, about.
-const CLIENT_BYTES: usize = 700;
+const CLIENT_BYTES: usize = 850;
 
 /// A client between its turns: its number among the worker's clients, its connection, how it speaks and what of that was read, the
 /// tokens of its programs, what it is owed, and how it is leaving, if it is.

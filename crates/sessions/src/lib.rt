@@ -15,7 +15,7 @@ mod unsent;
 
 pub use alone::{Alone, session_alone};
 pub use calls::{argument_of, call_of, named_program};
-pub use owed_answers::{OwedAnswers, WhenTaken};
+pub use owed_answers::OwedAnswers;
 pub use responses::{answer_to, may_be_sent, no_memory, program_sent, unknown_program};
 pub use session::send::{AtOnce, Replies, refuse};
 pub use session::{

@@ -219,7 +219,7 @@ impl Sink for OwedAnswers {
 }
 
 /// A reply is kept, and its frames are made when the connection takes them.
-pub struct WhenTaken;
+pub(crate) struct WhenTaken;
 
 impl Replies<OwedAnswers> for WhenTaken {
     fn send_reply(writer: &mut OwedAnswers, reply: WalkReply) -> Result<(), Failed> {

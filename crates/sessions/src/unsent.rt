@@ -16,9 +16,6 @@ use std::marker::Model;
 /// Frames are made until this many bytes are owed.
 const CHUNK_BYTES: usize = 65536;
 
-/// What an item takes beside the bytes of its key and its value, about.
-const ITEM_BYTES: usize = 64;
-
 /// The frame of an item that begins before that many bytes are owed, and of the end, have no more than this.
 const LAST_BYTES: usize = 2048;
 
@@ -30,7 +27,6 @@ pub const ROOM_BYTES: usize = CHUNK_BYTES + LAST_BYTES;
 pub struct UnsentReply {
     reply: Box<WalkReply>,
     next: usize,
-    bytes: usize,
 }
 
 impl Model for UnsentReply {
@@ -42,16 +38,6 @@ impl Model for UnsentReply {
     ghost view = { λ u. frames_from u.reply.value u.next };
 
     ghost invariant = { λ u. u.next ≤ length u.reply.value.items };
-}
-
-/// Returns about how many bytes the items take in memory.
-fn bytes_of(items: &MergedEntries) -> usize {
-    let mut bytes = 0usize;
-    for position in 0..items.len() {
-        let (key, value) = items.get(position);
-        bytes = bytes.saturating_add(ITEM_BYTES + key.len() + value.len());
-    }
-    bytes
 }
 
 /// Owes the frame of the item at a position.
@@ -87,17 +73,15 @@ impl UnsentReply {
         ensures whole { IfOk result (λ unsent. unsent ≡ response_frames (walk_responses reply)) }
         ensures some { IfOk result (λ unsent. 1 ≤ length unsent) }
     {
-        let bytes = bytes_of(&reply.items);
         Ok(UnsentReply {
             reply: Box::new(alloc, reply)?,
             next: 0,
-            bytes,
         })
     }
 
     /// Returns about how many bytes are kept, with the room for frames.
     pub fn bytes(&self) -> usize {
-        self.bytes.saturating_add(ROOM_BYTES)
+        self.reply.items.bytes().saturating_add(ROOM_BYTES)
     }
 
     /// Makes the next frames, and owes them. Returns whether all are made. If a request for memory is refused, no byte is lost, and

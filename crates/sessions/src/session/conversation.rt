@@ -136,7 +136,8 @@ impl Conversation {
     }
 
     /// As `take`, for answers that are owed to a connection: before each walk it sends what is owed, as far as the connection takes
-    /// it then.
+    /// it then. An `Err` says why the conversation ended: a fault of the piece, memory for its requests that was refused (then
+    /// nothing changed), or memory for what is owed (`WriteFailed`).
     pub fn take_and_send<
         S: Service,
         F: Fn(&mut S, Option<Version>, &Request, &mut Value) -> Answer,

@@ -12,6 +12,7 @@ use crate::session::service::Answer;
 use atomic_methods::WalkReply;
 use bins::{Counts, MergedEntries};
 use bpf_model::Value;
+use bpf_model::limits::VALUE_BYTES;
 use client_protocol::{Limits, ShortResponse, Version, item_head, value_head};
 use devices::{Failed, Sink, write_all};
 
@@ -81,7 +82,8 @@ fn have_too_long(hello: Option<Version>, items: &MergedEntries) -> bool
     let most = Limits::after(hello).value;
     for position in 0..items.len() {
         let (_, value) = items.get(position);
-        if value.len() > most {
+        // If the longest value may be sent, the compiled program reads none.
+        if most < VALUE_BYTES && value.len() > most {
             return true;
         }
     }
