@@ -1,11 +1,29 @@
 -- Numbers of stripes and the test for a power of two.
-use Rattle.std.proofs.Common.{◌≡◌, ℕ, ◌-◌, ◌%◌, ◌^◌, ◌≤◌, Bool, true, false, T, cond, ap, ◌∙◌, arith, inl, inr}
+use Rattle.std.proofs.Common.{◌≡◌, ℕ, zero, suc, ◌-◌, ◌%◌, ◌^◌, ◌<◌, ◌≤◌, Bool, true, false, T, ◌&&◌, cond, refl, sym, subst, ap, ◌∙◌, arith, inl, inr}
 use Rattle.std.specs.Prelude.{bit_and, nat_lt, nat_eq}
 use Rattle.std.specs.Int.{is_power_of_two}
-use Rattle.std.proofs.lemmas.Bool.{cases_lt, eqb-true}
+use Rattle.std.proofs.lemmas.Bool.{cases_eq, cases_lt, eqb-true}
 use Rattle.std.proofs.Math.Nat.{pow-le-pow_right, one-le-pow}
-use Rattle.bins.proofs.PowersOfTwo.{masked as masked_power, all_below, below, is_true}
+use Rattle.bins.proofs.PowersOfTwo.{masked as masked_power}
+use Rattle.bins.proofs.SearchLemmas.{both_hold}
 use Rattle.atomic_methods.specs.Hashes.{IsStripeCount}
+
+-- a test that holds for each number below a bound
+unfoldable all_below : (ℕ → Bool) → ℕ → Bool
+all_below test zero = true
+all_below test (suc n) = test n && all_below test n
+
+below : (test : ℕ → Bool) (m n : ℕ) → T (all_below test m) → n < m → T (test n)
+unfolding all_below
+below test zero n h lt = absurd (omega (arith, lt))
+below test (suc m) n h lt = elim (cases_eq n m) [
+  | inl same ↦ subst (λ (k : ℕ). T (test k)) (sym same) (both_hold _ _ h).0
+  | inr other ↦ below test m n (both_hold _ _ h).1 (omega (arith, lt, other))
+]
+
+is_true : (b : Bool) → T b → b ≡ true
+is_true true h = refl
+is_true false h = absurd h
 
 -- the power, of a number up to 64
 log : ℕ → ℕ
