@@ -106,7 +106,7 @@ def agree(found: str, wanted: str) -> None:
 def on_free_ports(text: str) -> str:
     """A block of a shell, with the built programs and with free ports in place of those of the page. If it starts a server, it waits for
     it, and what the server prints is left out."""
-    text = RT_TRY.sub(r"\1 ", text).replace("crates/mapd/out/mapd", "mapd").replace("../../", "")
+    text = RT_TRY.sub(r"\1 ", text).replace("crates/mapd/out/mapd", "mapd").replace("../../", "").replace("< stdin", "< crates/bpfmap/stdin")
     if "redis-cli -p" not in text:
         text = text.replace("redis-cli ", "redis-cli -p 6379 ")
     for port in ("7070", "6379"):
@@ -287,7 +287,7 @@ def query(block: Block, tools: Tools) -> None:
 
 # A page, which of its blocks (`is_meant` of listings.py says how that reads), and what is done with them.
 PLAYED: list[tuple[str, str, Play]] = [
-    ("README.md", "cd crates/bpfmap && rt try -- run", prints("bytes 03 00 00 00 00 00 00 00\n")),
+    ("README.md", "cd crates/bpfmap && rt try -- run ..", prints("bytes 03 00 00 00 00 00 00 00\n")),
     ("README.md", "cd crates/mapd && rt try --seconds 3600 -- --listen 127.0.0.1:7070", serves),
     ("README.md", "rt ci", is_in_gate),
     ("crates/bpf_assembler/README.md", r'let program = assemble(alloc, "mov64 r0, 8\nexit\n")?;', same_text),
