@@ -1,5 +1,5 @@
 //! The limits of a program.
-ghost use Rattle.std.specs.Prelude.{◌≡◌, ◌↔◌, IsTrue};
+ghost use Rattle.std.specs.Prelude.{◌↔◌, IsTrue};
 ghost use Rattle.admission.specs.Admissions.{HasManyUnits, HasLargeWindow};
 
 use bpf_model::Sizes;

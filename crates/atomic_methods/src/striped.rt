@@ -1,5 +1,5 @@
 //! A whole table in stripes, for one caller.
-ghost use Rattle.std.specs.Prelude.{◌≡◌, ◌≤◌, ◌↔◌, ◌⊎◌, ℕ, [], length, IfOk, IfErr, OnErr, IsErrOf, vec_len, map};
+ghost use Rattle.std.specs.Prelude.{◌≡◌, ◌≤◌, ◌↔◌, ◌⊎◌, ℕ, [], length, IfOk, IfErr, OnErr, IsErrOf, map};
 ghost use Rattle.std.specs.FinMap as finmap;
 ghost use Rattle.bins.specs.Copies.{WeighSame};
 ghost use Rattle.bins.specs.Replacements.{ReplacesEach};

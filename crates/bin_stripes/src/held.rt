@@ -1,6 +1,6 @@
 //! Work on the bins of a held stripe: a call, a scan or the replacement of its values. Each works on the bins in place,
 //! in the stripe's slot, and lets the stripe go.
-ghost use Rattle.std.specs.Prelude.{◌≡◌, ◌<◌, ◌^◌, List, [], ◌∷◌, length, option_copied, IfOk, OnOk, OnErr};
+ghost use Rattle.std.specs.Prelude.{◌≡◌, ◌<◌, ◌^◌, [], ◌∷◌, length, option_copied, IfOk, OnOk, OnErr};
 ghost use Rattle.std.specs.FinMap as map;
 ghost use Rattle.atomic_methods.specs.Hashes.{stripe_of};
 ghost use Rattle.bins.specs.Copies.{AddsCopies};

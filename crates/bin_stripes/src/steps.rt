@@ -1,13 +1,13 @@
 //! The steps on one stripe: take and release. Its word is 1 while it is held, else 0, and has two lines of the cache to
 //! itself. Its bins are in the slot with its number, which belongs to the seat that holds the stripe.
-ghost use Rattle.std.specs.Prelude.{◌≡◌, ℕ, ◌<◌, true, false, Option, List, [], ◌∷◌, ◌++◌, Some, None, MatchBool};
+ghost use Rattle.std.specs.Prelude.{◌≡◌, ℕ, ◌<◌, true, false, Option, List, ◌∷◌, ◌++◌, Some, None, MatchBool};
 ghost use Rattle.stripe_rule.specs.Gains.{held_at, seen_of, Carries, least};
 ghost use Rattle.stripe_rule.specs.Steps.{Takes, Looks};
 ghost use Rattle.bin_stripes.specs.Actions.{Action};
 ghost use Rattle.bin_stripes.specs.Histories.{empty, does, own_events};
 ghost use Rattle.bin_stripes.specs.Releasing.{Lets};
 ghost use Rattle.bin_stripes.specs.Saves.{keeps, LeavesBins};
-ghost use Rattle.bin_stripes.specs.Holding.{IsLaid, Rests, Settles, SeatHolds};
+ghost use Rattle.bin_stripes.specs.Holding.{IsLaid, SeatHolds};
 
 use crate::ghost_action::GhostAction;
 use crate::rule::{Look, May, Release, Shape, Striping, Take};

@@ -1,6 +1,6 @@
 //! One pass is told what another knows, and two passes become one.
-ghost use Rattle.std.specs.Prelude.{◌≡◌, ◌<◌, []};
-ghost use Rattle.stripe_rule.specs.Gains.{Hears, IsJoined, Carries, least};
+ghost use Rattle.std.specs.Prelude.{◌≡◌, ◌<◌};
+ghost use Rattle.stripe_rule.specs.Gains.{Hears, IsJoined};
 ghost use Rattle.stripe_rule.specs.Steps.{HasHeard, united, view_of};
 ghost use Rattle.bin_stripes.specs.AllSeen.{CarriesAll, SeesJustTheirs};
 ghost use Rattle.bin_stripes.specs.Histories.{Sound};

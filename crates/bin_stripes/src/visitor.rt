@@ -1,5 +1,4 @@
 //! What looks at the entries of a held stripe.
-ghost use Rattle.std.specs.Prelude.{◌<◌, ◌^◌, length};
 
 use bins::LentEntries;
 

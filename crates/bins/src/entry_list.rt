@@ -1,5 +1,5 @@
 //! Lists of entries, in rows of many widths.
-ghost use Rattle.std.specs.Prelude.{◌≡◌, ◌+◌, ◌<◌, ◌≤◌, ◌^◌, ◌++◌, ◌∷◌, ◌↔◌, [], length, map, IfOk, IsTrue, OnOk, OnErr};
+ghost use Rattle.std.specs.Prelude.{◌≡◌, ◌+◌, ◌<◌, ◌≤◌, ◌++◌, ◌∷◌, ◌↔◌, [], length, map, IfOk, IsTrue, OnOk, OnErr};
 ghost use Rattle.std.specs.List.Sorted.{IsPermutation, IsSortedBy};
 ghost use Rattle.bins.specs.KeptRows.{string_at};
 ghost use Rattle.bins.specs.Copies.{comes_before, is_before, positions_of};
@@ -53,7 +53,7 @@ impl EntryList {
         self.rows.len()
     }
 
-    /// Returns how many bytes the list takes, with room that it doesn't use. Takes no memory.
+    /// Returns how many bytes the list takes: of room that it keeps for later, as much as it has touched. Takes no memory.
     pub fn bytes(&self) -> usize {
         self.rows.bytes()
     }

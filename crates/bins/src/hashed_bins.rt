@@ -2,7 +2,7 @@
 //! become long.
 ghost use Rattle.std.specs.FinMap as map;
 ghost use Rattle.std.specs.Prelude.{◌≡◌, ◌+◌, ◌≤◌, None, OnOk, OnErr, ◌≢◌, ◌<◌, ◌++◌, ◌↔◌, [], ◌∷◌, length, map, HoldsAt, IfOk, IfSome, IfNone, IsTrue};
-ghost use Rattle.std.specs.Int.{IsPowerOfTwo, from_le_bytes, to_le_bytes, w64};
+ghost use Rattle.std.specs.Int.{from_le_bytes, to_le_bytes, w64};
 ghost use Rattle.bins.specs.Told.{IsBinCount};
 ghost use Rattle.std.specs.List.{AllWithin, swap_remove};
 ghost use Rattle.bins.specs.Mixed.{mixed};

@@ -1,6 +1,6 @@
 //! Hashes of keys: the one that chooses the stripe, and the one by which an index spreads keys, which nobody can tell without its
 //! seed. And the first bytes of a key as a number: most keys are compared by it.
-ghost use Rattle.std.specs.Prelude.{◌≡◌, [], ◌∷◌, fold, ◌<◌, ◌≤◌, length, slice_index_or, ◌^◌, ◌-◌, ◌*◌, min};
+ghost use Rattle.std.specs.Prelude.{◌≡◌, [], ◌∷◌, fold, ◌<◌, ◌≤◌, length, slice_index_or, ◌^◌, ◌*◌, min};
 ghost use Rattle.bins.specs.Hashes.{hash as hash_is, hash_more};
 ghost use Rattle.bins.specs.Fronts.{front, AreBytes};
 ghost use Rattle.std.specs.Hash.FoldHasher.{folded_multiply};

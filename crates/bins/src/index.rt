@@ -5,9 +5,8 @@
 //! `specs/Chains.antt`). Bins are added one at a time: a new bin takes its positions out of the chain of one bin, and the
 //! other chains stay as they are. So no call is held up while the bins grow. The hash of a position and its next lie side by
 //! side, so a search finds both in one cache line.
-ghost use Rattle.std.specs.Prelude.{◌≡◌, ◌<◌, ◌*◌, ◌^◌, ◌++◌, [], ◌∷◌, length, slice_index, IfOk, OnOk, OnErr, ◌≤◌, ◌+◌, ◌-◌, ◌↔◌, ℕ, set, IsTrue, take};
+ghost use Rattle.std.specs.Prelude.{◌≡◌, ◌<◌, ◌*◌, ◌++◌, [], ◌∷◌, length, slice_index, IfOk, OnOk, OnErr, ◌≤◌, ◌+◌, ◌-◌, ℕ, set, IsTrue, take};
 ghost use Rattle.std.specs.List.{swap_remove};
-ghost use Rattle.std.specs.Int.{IsPowerOfTwo};
 ghost use Rattle.bins.specs.Chains.{IsCrowded, IsLastOf, MayDouble, AreChained, AreLinked, AreLinkedAt, AreLinkedBy, AreSpread, IsLast, IsLink, IsLinkTo, Moved, Relinked, bin_in, bin_of, bins_of, follow, position_bin};
 ghost use Rattle.bins.specs.Mixed.{mixed};
 ghost use Rattle.bins.specs.Told.{IsBinCount};

@@ -83,7 +83,7 @@ impl MergedEntries {
         }
     }
 
-    /// Returns how many bytes the lists and the positions take, with room that they don't use. Takes no memory.
+    /// Returns how many bytes the lists and the positions take. Takes no memory.
     pub fn bytes(&self) -> usize {
         match &self.source {
             Source::One(list) => list.bytes(),

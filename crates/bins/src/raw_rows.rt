@@ -1,6 +1,6 @@
 //! Rows in segments, and for each position the location of its row. A row names its position too. So when a row goes, the
 //! last one of its width takes the gap, and the position of that last one gets the new location.
-ghost use Rattle.std.specs.Prelude.{◌≡◌, ℕ, ◌+◌, ◌-◌, ◌*◌, ◌<◌, ◌≤◌, ◌^◌, ◌++◌, [], ◌∷◌, length, set, IfOk, IsTrue, OnOk, OnErr, vec_capacity};
+ghost use Rattle.std.specs.Prelude.{◌≡◌, ℕ, ◌+◌, ◌-◌, ◌<◌, ◌≤◌, ◌^◌, ◌++◌, [], ◌∷◌, length, set, IfOk, IsTrue, OnOk, OnErr, vec_capacity};
 ghost use Rattle.std.specs.List.{swap_remove};
 ghost use Rattle.bins.specs.KeptRows.{kept, nobody, location_at, row_at, string_at, with_rows, IsNear};
 ghost use Rattle.bins.specs.Rows.{AreEmpty, AreIn, AreWider, AreWidths, FitIn, IsKept, IsRoomy, keys_in, lists_in, rows_in, segments_for, used, values_in, width_at};

@@ -1,5 +1,5 @@
 //! The entries of all stripes, and the program's runs on them as soon as it may run in the workers.
-ghost use Rattle.std.specs.Prelude.{◌≡◌, ◌+◌, ◌<◌, ◌^◌, All, IfOk, OnOk, MatchResult, Ok, length, map, vec_len};
+ghost use Rattle.std.specs.Prelude.{◌≡◌, ◌<◌, All, IfOk, MatchResult, Ok, length, map, vec_len};
 ghost use Rattle.bin_stripes.specs.Passes.{stripes_of};
 ghost use Rattle.bulk_walks.specs.Walks.{Walked, AllWalked, MayScan};
 ghost use Rattle.bulk_walks.specs.Runs.{WorkerRuns, TeamRuns};

@@ -1,5 +1,5 @@
 //! One reply from the answers of the workers.
-ghost use Rattle.std.specs.Prelude.{◌≡◌, ℕ, ◌<◌, ◌≤◌, ◌^◌, ◌∷◌, ◌↔◌, [], All, IfOk, IsTrue, List, MatchOption, T, drop, length, map, slice_index_or, sum_by, take, false};
+ghost use Rattle.std.specs.Prelude.{◌≡◌, ◌<◌, ◌^◌, ◌∷◌, ◌↔◌, [], All, IfOk, IsTrue, List, MatchOption, T, drop, length, map, slice_index_or, sum_by, take, false};
 ghost use Rattle.std.specs.FinMap as finmap;
 ghost use Rattle.bins.specs.Entries.{entries_at, entry_of};
 ghost use Rattle.bins.specs.Fronts.{AreBytes};

@@ -1,5 +1,5 @@
 //! The replacement of all values.
-ghost use Rattle.std.specs.Prelude.{◌≡◌, ℕ, ◌<◌, ◌+◌, ◌^◌, All, MatchResult, sum_by, vec_len};
+ghost use Rattle.std.specs.Prelude.{◌≡◌, ◌<◌, ◌^◌, All, MatchResult, sum_by};
 ghost use Rattle.bin_stripes.specs.Passes.{stripes_of};
 ghost use Rattle.bulk_walks.specs.Walks.{ReplacesAll};
 ghost use Rattle.atomic_methods.specs.Whole.{IsSum};

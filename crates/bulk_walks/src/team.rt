@@ -1,5 +1,5 @@
 //! Teams of passes.
-ghost use Rattle.std.specs.Prelude.{◌≡◌, ◌≢◌, ◌<◌, IfOk, IsOk, ◌↔◌, vec_len};
+ghost use Rattle.std.specs.Prelude.{◌≡◌, ◌<◌, IfOk, IsOk, ◌↔◌, vec_len};
 
 use bin_stripes::Pass;
 use std::error::Error;

@@ -1,8 +1,8 @@
 //! Requests from a stream that arrives in pieces.
-ghost use Rattle.std.specs.Prelude.{◌≡◌, ◌<◌, ◌++◌, List, [], length, take, IfOk, IfErr, IfSome, IfNone, IsOk, IsSome, OnOk, OnErr, None};
+ghost use Rattle.std.specs.Prelude.{◌≡◌, ◌++◌, List, [], length, take, IfOk, IfErr, IfSome, IfNone, IsOk, IsSome, OnOk, OnErr, None};
 ghost use Rattle.client_protocol.specs.Requests.{Request as TheRequest};
 ghost use Rattle.client_protocol.specs.Reading.{IfFault, Adds};
-ghost use Rattle.client_protocol.specs.Frames.{Frames, Feeds, IsRequest, IsBeginning, IsFaulty, frame_of, held_of, held_hello, held_fault, is_inside};
+ghost use Rattle.client_protocol.specs.Frames.{Frames, Feeds, IsBeginning, IsFaulty, held_of, held_hello, held_fault, is_inside};
 ghost use Rattle.client_protocol.specs.Frames.Held.{open_at};
 
 use crate::copies::replace;

@@ -1,5 +1,5 @@
 //! Fields at the front of bytes.
-ghost use Rattle.std.specs.Prelude.{◌≡◌, ◌+◌, ◌≤◌, ◌<◌, [], ◌++◌, length, IfSome, IfNone};
+ghost use Rattle.std.specs.Prelude.{◌≡◌, ◌≤◌, ◌<◌, [], ◌++◌, length, IfSome, IfNone};
 ghost use Rattle.client_protocol.specs.Bodies.{Kind, Field as TheField, limits_after};
 ghost use Rattle.client_protocol.specs.Bodies.Kind.{a_byte, a_short, a_long, a_key, a_value, an_opt};
 ghost use Rattle.client_protocol.specs.Bodies.Field.{byte, short, long, key as the_key, value as the_value, opt};

@@ -1,5 +1,5 @@
 //! A program's text, with what the verifier knows beside each instruction.
-ghost use Rattle.std.specs.Prelude.{◌≡◌, ◌<◌, ◌≤◌, ◌++◌, IfOk, OnOk, length, option_map, string_bytes};
+ghost use Rattle.std.specs.Prelude.{◌≡◌, ◌<◌, ◌++◌, IfOk, OnOk, length, option_map, string_bytes};
 ghost use Rattle.bpf_model.specs.Fits.{AreWithinLimits};
 ghost use Rattle.bpf_model.specs.Program.{IsProgram};
 ghost use Rattle.explanations.specs.Listings.{told_register, registers_below, state_text, known_text, line_text, values_after, lines_below};

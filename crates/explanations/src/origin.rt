@@ -1,5 +1,5 @@
 //! From which instructions a register has its value, in words.
-ghost use Rattle.std.specs.Prelude.{◌≡◌, ◌<◌, ◌≤◌, ◌++◌, Some, IfSome, OnOk, length, option_map, slice_get, take, string_bytes};
+ghost use Rattle.std.specs.Prelude.{◌≡◌, ◌<◌, ◌≤◌, ◌++◌, Some, IfSome, OnOk, length, option_map, string_bytes};
 ghost use Rattle.bpf_model.specs.declared.limits.TheConstants.{PROGRAM_UNITS};
 ghost use Rattle.bpf_model.specs.Program.{unit_count};
 ghost use Rattle.verifier.specs.Instructions.{reads, written_by, operand_reads};

@@ -1,5 +1,5 @@
 //! Why a file cannot be used.
-ghost use Rattle.std.specs.Prelude.{◌≡◌, ◌↔◌, ◌⊎◌, unwrap_or};
+ghost use Rattle.std.specs.Prelude.{◌≡◌, ◌↔◌, unwrap_or};
 ghost use Rattle.kept_file.specs.Faults.{IsRefused, failure_of, fault_of};
 
 use sqlite::{Error as SqlError, ErrorCode};

@@ -1,5 +1,5 @@
 //! Whether a file has the tables of a new one, by its own list of its objects.
-ghost use Rattle.std.specs.Prelude.{◌≡◌, codes, IsTrue, IfOk, OnOk};
+ghost use Rattle.std.specs.Prelude.{◌≡◌, codes, IsTrue, OnOk};
 ghost use Rattle.sqlite.specs.Held.{state};
 ghost use Rattle.sqlite.specs.Order.{column};
 ghost use Rattle.sqlite.specs.State.{HasCleanDisk, IsUnchanged, Survives};

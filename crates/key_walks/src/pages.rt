@@ -1,5 +1,5 @@
 //! A walk by pages.
-ghost use Rattle.std.specs.Prelude.{◌≡◌, ◌↔◌, ℕ, List, IsTrue, ◌<◌, ◌≤◌, ◌+◌, ◌-◌, ◌/◌, ◌^◌, ◌++◌, ◌&&◌, max, leb, ltb, count_by, filter, map, length, IfOk, OnOk, OnErr};
+ghost use Rattle.std.specs.Prelude.{◌≡◌, ◌↔◌, ℕ, List, IsTrue, ◌<◌, ◌≤◌, ◌-◌, ◌/◌, ◌^◌, ◌++◌, ◌&&◌, max, leb, ltb, count_by, filter, map, length, IfOk, OnOk, OnErr};
 ghost use Rattle.bin_stripes.specs.Passes.{ServesSameMap, stripes_of};
 ghost use Rattle.key_walks.specs.Places.{stands_in, start_of};
 ghost use Rattle.key_walks.specs.Expired.{MayScanLive, StopsLive};

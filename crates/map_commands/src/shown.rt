@@ -1,5 +1,5 @@
 //! How clap's text is told: the words of the command line that it echoes are cut, and bytes that do not print are spelled.
-ghost use Rattle.std.specs.Prelude.{◌≡◌, ◌≤◌, ◌++◌, IfOk, OnOk, length, max, string_bytes};
+ghost use Rattle.std.specs.Prelude.{◌≡◌, ◌≤◌, ◌++◌, IfOk, OnOk, length, max};
 ghost use Rattle.clap.specs.Walk.{texts};
 ghost use Rattle.map_commands.specs.Shown.{shown_byte, shown_word, shown_own, before_equals, behind_equals, echo_length, word_echo, longest_echo, told};
 

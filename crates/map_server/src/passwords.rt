@@ -1,5 +1,5 @@
 //! The password that clients of commands have to show: the first line of a file.
-ghost use Rattle.std.specs.Prelude.{◌≡◌, ◌≤◌, ◌++◌, ℕ, List, length, true, is_some, IfOk, IfErr};
+ghost use Rattle.std.specs.Prelude.{◌≡◌, ◌≤◌, length, true, is_some, IfOk, IfErr};
 ghost use Rattle.devices.specs.Devices.{CanWrite};
 
 use crate::words::MapdWords;

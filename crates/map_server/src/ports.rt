@@ -1,5 +1,5 @@
 //! The ports that clients come to, one for each protocol that they speak.
-ghost use Rattle.std.specs.Prelude.{◌≡◌, IfOk, is_some};
+ghost use Rattle.std.specs.Prelude.{IfOk};
 ghost use Rattle.map_server.specs.Servers.{IsBoundTo};
 
 use crews::Protocol;

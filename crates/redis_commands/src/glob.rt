@@ -1,7 +1,6 @@
 //! Patterns of keys, as Redis reads them.
-ghost use Rattle.std.specs.Prelude.{◌≡◌, ◌+◌, ◌≤◌, ◌<◌, true, false, ◌∷◌, length, drop};
-ghost use Rattle.redis_commands.specs.Matching.{is_between, more_of_member, is_first, is_member, class_length, class_at, class_bytes, escaped, piece_at, more_bytes, fits, matches, stand_for, pieces_after};
-ghost use Rattle.redis_commands.specs.Matching.Piece.{AnyBytes as AnyBytesPiece};
+ghost use Rattle.std.specs.Prelude.{◌≡◌, ◌+◌, ◌≤◌, true, false, length, drop};
+ghost use Rattle.redis_commands.specs.Matching.{is_between, more_of_member, is_first, is_member, class_length, class_at, class_bytes, piece_at, more_bytes, fits, matches, stand_for, pieces_after};
 ghost use Rattle.redis_commands.specs.Places.{piece_by, is_carried, shifted, spread, some_place, GoesOnBy};
 
 use bpf_model::limits::KEY_BYTES;

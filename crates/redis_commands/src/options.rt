@@ -1,9 +1,9 @@
 //! Options of commands, which come in any order.
 ghost use Rattle.std.specs.Prelude.{◌≡◌, ◌≤◌, option_map, true, IfOk, IfSome, length};
 ghost use Rattle.redis_commands.specs.declared.command.TheConstants.{NAME_BYTES};
-ghost use Rattle.redis_commands.specs.Commands.{texts, condition_by};
+ghost use Rattle.redis_commands.specs.Commands.{texts};
 ghost use Rattle.redis_commands.specs.Words.{number};
-ghost use Rattle.redis_commands.specs.Options.{flag, valued, spelled, is_of, same_condition, same_unit, same_form, same_term, set_options, count_of, scan_option, with_scan_option, scan_options, is_client_name, short_name, client_name, is_default, naming, each_hello_option, with_hello_option, hello_options};
+ghost use Rattle.redis_commands.specs.Options.{flag, valued, spelled, is_of, same_unit, same_form, same_term, set_options, count_of, scan_option, scan_options, is_client_name, short_name, client_name, is_default, naming, each_hello_option, with_hello_option, hello_options};
 ghost use Rattle.redis_commands.specs.Reading.{number_by, natural_by, text_by, term_by, option_by, set_view, set_by, goes_on, may_follow, added, scan_view, scan_by, scan_with, hello_option_by, hello_view, hello_by, hello_goes_on, naming_by};
 
 use crate::command::{Condition, NAME_BYTES, TimeForm, TimeUnit};

@@ -1,6 +1,5 @@
 //! The texts of faults that show words.
-ghost use Rattle.std.specs.Prelude.{◌≡◌, ◌+◌, ◌≤◌, ◌++◌, length, codes};
-ghost use Rattle.redis_commands.specs.Names.{name_text, sub_word, parent_of, parent_text};
+ghost use Rattle.std.specs.Prelude.{◌≡◌, ◌+◌, ◌≤◌, ◌++◌, length};
 ghost use Rattle.redis_commands.specs.Commands.{texts};
 ghost use Rattle.redis_commands.specs.Commands.Fault.{UnknownCommand, UnknownSub, WrongCount, WrongSubCount, WrongSub, BadExpire, ExpireOption, HelloOption, ClientType, NoUser};
 ghost use Rattle.redis_commands.specs.Texts.{until_0, is_line_end, trimmed, blanked, shown, shown_args, fault_text};

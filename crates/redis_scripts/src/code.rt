@@ -1,5 +1,5 @@
 //! The code of a script: without comments, blanks at the ends of lines and empty lines.
-ghost use Rattle.std.specs.Prelude.{◌≡◌, ◌++◌, length, option_copied, OnOk, IfOk};
+ghost use Rattle.std.specs.Prelude.{◌≡◌, ◌++◌, option_copied, OnOk, IfOk};
 ghost use Rattle.redis_scripts.specs.Pieces.{pieces, pieces_after};
 ghost use Rattle.redis_scripts.specs.Code.{is_blank, begins_with, begins_comment, before_comment, without_front_blanks, without_end_blanks, code_of, code_line, code_of_all, line_with_code};
 

@@ -1,6 +1,5 @@
 //! The scripts that are known by their digests.
 ghost use Rattle.std.specs.Prelude.{◌≡◌, All, IfOk, IfSome};
-ghost use Rattle.sha1.specs.Sha1.{sha1};
 ghost use Rattle.redis_scripts.specs.Scripts.{IsLoadedText, IsText, IsScript};
 
 use crate::head::{Method, ReplyKind};

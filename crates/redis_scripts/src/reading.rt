@@ -1,9 +1,6 @@
 //! Reads a script: its first line, and the bytes of its program.
-ghost use Rattle.std.specs.Prelude.{◌≡◌, ◌≢◌, ◌⊎◌, ◌%◌, Ok, true, false, length, option_copied, IfOk, IfErr, List};
+ghost use Rattle.std.specs.Prelude.{◌≡◌, ◌≢◌, ◌⊎◌, ◌%◌, Ok, length, option_copied, IfOk, IfErr};
 ghost use Rattle.hex.specs.Hex.{decode_of};
-ghost use Rattle.bpf_model.specs.declared.instruction.Insn.{Insn};
-ghost use Rattle.bpf_model.specs.Spelling.{Spells};
-ghost use Rattle.bpf_assembler.specs.Text.{IsTextOf};
 ghost use Rattle.bpf_assembler.specs.Faults.{line_number};
 ghost use Rattle.redis_scripts.specs.Pieces.{pieces_after};
 ghost use Rattle.redis_scripts.specs.Code.{code_of_all, other_lines, line_with_code};

@@ -1,5 +1,5 @@
 //! What answers the commands of a worker's clients.
-ghost use Rattle.std.specs.Prelude.{◌≡◌, ◌≢◌, ℕ, List, true, false, All, OnOk, OnErr, IfOk, IsTrue};
+ghost use Rattle.std.specs.Prelude.{◌≡◌, ℕ, List, true, false, All, OnOk, OnErr, IfOk};
 ghost use Rattle.bin_stripes.specs.Passes.{PassState, ServesSameMap};
 ghost use Rattle.devices.specs.Devices.{CanWrite, TakesBytes, TakesThenFails};
 ghost use Rattle.redis_commands.specs.Commands.{answer_by, asked_by, act_by, server_by, fault_by, texts};

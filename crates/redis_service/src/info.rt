@@ -1,5 +1,5 @@
 //! What `INFO` says.
-ghost use Rattle.std.specs.Prelude.{◌≡◌, ◌≤◌, ◌||◌, [], List, length, flat_map, IfOk, if◌then◌else◌};
+ghost use Rattle.std.specs.Prelude.{◌≡◌, ◌≤◌, ◌||◌, [], List, length, flat_map, IfOk};
 ghost use Rattle.std.specs.List.{list_any};
 ghost use Rattle.redis_commands.specs.Commands.{texts};
 ghost use Rattle.redis_service.specs.Info as spec;

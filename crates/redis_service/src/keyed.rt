@@ -8,7 +8,7 @@ ghost use Rattle.redis_commands.specs.Commands.Act.{Set, SetIfAbsent, GetAndSet,
 ghost use Rattle.redis_commands.specs.Commands.Condition.{Always, IfAbsent, IfPresent, IfEqual};
 ghost use Rattle.redis_commands.specs.Table.{longest};
 ghost use Rattle.redis_service.specs.Answers.{AnswersKey, AnswersSet};
-ghost use Rattle.redis_service.specs.Calls.{Finds, bulk};
+ghost use Rattle.redis_service.specs.Calls.{Finds};
 ghost use Rattle.redis_service.specs.Changes.{AnswersChange};
 ghost use Rattle.redis_service.specs.Planned.{Does, IsWithin};
 ghost use Rattle.redis_service.specs.Replied.{replied_bytes};

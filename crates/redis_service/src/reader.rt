@@ -1,5 +1,5 @@
 //! Reads commands from bytes, one after the other.
-ghost use Rattle.std.specs.Prelude.{◌≡◌, []};
+ghost use Rattle.std.specs.Prelude.{◌≡◌};
 ghost use Rattle.resp.specs.Grammar.{texts};
 ghost use Rattle.redis_service.specs.Reads.{ReadsNext};
 

@@ -1,5 +1,4 @@
 //! Room for one command.
-ghost use Rattle.std.specs.Prelude.{◌≡◌, []};
 
 use crate::sweeper::Sweeper;
 use bpf_model::{Key, Value};

@@ -1,5 +1,5 @@
 //! What the server tells of itself.
-ghost use Rattle.std.specs.Prelude.{◌≡◌, ◌<◌, ◌≤◌, ◌+◌, ◌*◌, ◌^◌, ◌∷◌, [], ◌++◌, ℕ, List, Option, length, count_by, option_copied, IfOk, OnOk};
+ghost use Rattle.std.specs.Prelude.{◌≡◌, ◌<◌, ◌≤◌, ◌+◌, ◌^◌, ◌∷◌, [], ◌++◌, ℕ, List, Option, length, count_by, option_copied, IfOk, OnOk};
 ghost use Rattle.std.specs.Str.{str_eq_ignore_ascii_case};
 ghost use Rattle.devices.specs.Devices.{SinkState, CanWrite};
 ghost use Rattle.redis_commands.specs.Commands.{texts};

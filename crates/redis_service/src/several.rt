@@ -1,5 +1,5 @@
 //! Commands of several keys: one event for each, in order.
-ghost use Rattle.std.specs.Prelude.{◌≡◌, ◌<◌, ◌≤◌, ◌+◌, ◌^◌, ◌∷◌, [], ℕ, List, length, All, Option, count_by, is_some, OnOk, IsTrue, IsFalse};
+ghost use Rattle.std.specs.Prelude.{◌≡◌, ◌<◌, ◌≤◌, ◌+◌, ◌^◌, ◌∷◌, [], ℕ, List, length, All, Option, count_by, is_some, IsTrue, IsFalse};
 ghost use Rattle.atomic_methods.specs.declared.reply.Reply.{Reply};
 ghost use Rattle.atomic_methods.specs.Invocations.{on_key, put};
 ghost use Rattle.atomic_methods.specs.Plans.{where_true};

@@ -1,5 +1,5 @@
 //! Commands that took long.
-ghost use Rattle.std.specs.Prelude.{◌≡◌, ℕ, List, ◌++◌, length, flat_map, IfOk, OnOk};
+ghost use Rattle.std.specs.Prelude.{ℕ, List, ◌++◌, length, IfOk, OnOk};
 ghost use Rattle.devices.specs.Devices.{SinkState, CanWrite};
 ghost use Rattle.redis_service.specs.Sending.{Sends};
 ghost use Rattle.redis_service.specs.Slowlogs.{AnswersSlowlog, IsWithin, Tells, entry_bytes, entries_bytes, words_bytes};

@@ -1,7 +1,7 @@
 //! Commands in an array.
-ghost use Rattle.std.specs.Prelude.{◌≡◌, ◌≢◌, ◌+◌, ◌≤◌, ◌++◌, ◌∷◌, ◌^◌, [], ℕ, List, length, All, IfOk, IfErr, IfSome, IfNone, OnErr};
+ghost use Rattle.std.specs.Prelude.{◌≡◌, ◌≢◌, ◌≤◌, ◌++◌, ◌∷◌, [], ℕ, List, length, All, IfOk, IfErr, IfSome, IfNone, OnErr};
 ghost use Rattle.resp.specs.Streams.{IsFrontOf, NeverBegins};
-ghost use Rattle.resp.specs.Grammar.{texts, words_bytes, bytes_of, number_line, IsWord};
+ghost use Rattle.resp.specs.Grammar.{texts, words_bytes, bytes_of, IsWord};
 ghost use Rattle.resp.specs.Reading.{Reads, Refuses, IfFaulty, IsPositiveLine, LacksWords, FailsWords};
 
 use crate::command::Next;

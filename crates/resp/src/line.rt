@@ -1,5 +1,5 @@
 //! Commands in a line.
-ghost use Rattle.std.specs.Prelude.{◌≡◌, ◌≢◌, ◌++◌, ◌∷◌, ◌↔◌, ◌≤◌, [], ℕ, List, true, length, IsTrue, IfOk, IfErr, IfSome, IfNone, OnOk};
+ghost use Rattle.std.specs.Prelude.{◌≡◌, ◌≢◌, ◌∷◌, ◌↔◌, ◌≤◌, [], ℕ, List, true, length, IsTrue, IfOk, IfErr, IfSome, IfNone, OnOk};
 ghost use Rattle.resp.specs.Streams.{StopsAt};
 ghost use Rattle.resp.specs.Grammar.{texts, IsFaultyLine, IsOpenLine};
 ghost use Rattle.resp.specs.LineWords.{is_blank as is_a_blank, is_no_blank, is_quote as is_a_quote, BeginsWord, HasWords};

@@ -1,5 +1,5 @@
 //! The password that clients show.
-ghost use Rattle.std.specs.Prelude.{◌≡◌, ◌≤◌, length, bytes_eq, get_or, if◌then◌else◌, nat_eq};
+ghost use Rattle.std.specs.Prelude.{◌≡◌, bytes_eq, get_or, if◌then◌else◌, nat_eq};
 ghost use Rattle.server_state.specs.Passwords.{made};
 
 use arrayvec::ArrayVec;

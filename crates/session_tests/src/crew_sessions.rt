@@ -1,5 +1,5 @@
 //! Sessions of crews over one map, in memory.
-ghost use Rattle.std.specs.Prelude.{◌≡◌, ◌≤◌, All, IfOk, IfSome};
+ghost use Rattle.std.specs.Prelude.{◌≡◌, All, IfSome};
 ghost use Rattle.crews.specs.Crews.{IsCrewOf};
 
 mod at_work;

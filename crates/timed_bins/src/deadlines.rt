@@ -1,6 +1,6 @@
 //! The deadlines of keys, and an agenda of them, the soonest first.
 ghost use Rattle.std.specs.FinMap as map;
-ghost use Rattle.std.specs.Prelude.{◌≡◌, ◌≢◌, ◌<◌, ◌≤◌, ◌⊎◌, ℕ, List, Some, None, IsTrue, IfOk, OnOk, OnErr, length, [], ◌∷◌, MatchOption};
+ghost use Rattle.std.specs.Prelude.{◌≡◌, ◌≤◌, ◌⊎◌, ℕ, List, Some, None, IsTrue, IfOk, OnOk, OnErr, length, [], ◌∷◌, MatchOption};
 ghost use Rattle.timed_bins.specs.Agendas.{AreListed, AreRowsListed, HasRoom, SetsDeadline, deadline_of, entries_of, first_of, Due};
 ghost use Rattle.timed_bins.specs.Looks.{Finds};
 ghost use Rattle.std.specs.List.{All};

@@ -1,6 +1,6 @@
 //! Bins with the deadlines of their keys beside them: what a call does to its key's deadline, and the call itself.
 ghost use Rattle.std.specs.FinMap as map;
-ghost use Rattle.std.specs.Prelude.{◌≡◌, option_copied, ◌⊎◌, ℕ, None, IsTrue, IfOk, OnErr};
+ghost use Rattle.std.specs.Prelude.{◌≡◌, option_copied, ℕ, None, IsTrue, IfOk, OnErr};
 ghost use Rattle.timed_bins.specs.Agendas.{deadline_of, AreOfEntries, SetsDeadline};
 ghost use Rattle.timed_bins.specs.Deadlines.{timed_table, CallsWith, asks_room as asks_room_is, allows, changed, change_of as change_of_is};
 ghost use Rattle.timed_bins.specs.Steps.{LooksFirst, IsReady, KeepsDeadlines, MakesRoom, MayRefuse, NeedsNone, Settles, before_in, change_at as change_at_is};

@@ -1,5 +1,5 @@
 //! Calls in threads of their own, while the calling thread waits.
-ghost use Rattle.std.specs.Prelude.{◌≡◌, ℕ, ◌+◌, ◌^◌, ◌<◌, length, slice_index_or};
+ghost use Rattle.std.specs.Prelude.{◌+◌, ◌^◌, ◌<◌, length};
 ghost use denote.Param.Send.{IsSync, IsSend};
 ghost use Rattle.std.specs.Fork.{AcceptsAt, AcceptsEach, ChangesAt, ChangesEach};
 ghost use Rattle.workers.specs.Apart.{AcceptsFrom, ChangesFrom};

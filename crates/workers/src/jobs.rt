@@ -1,6 +1,6 @@
 //! The workers of a team.
-ghost use Rattle.std.specs.Prelude.{◌≡◌, ◌≢◌, ℕ, ◌<◌, ◌≤◌, MatchResult, IfSome, length, vec_len, vec_capacity, map, Some, None, IsSome, slice_index_or};
-ghost use Rattle.std.specs.Prelude.{IsSomeAnd, [], All, ◌+◌};
+ghost use Rattle.std.specs.Prelude.{◌≡◌, ℕ, ◌<◌, ◌≤◌, MatchResult, length, vec_len, vec_capacity, map, Some, None, IsSome, slice_index_or};
+ghost use Rattle.std.specs.Prelude.{IsSomeAnd, [], All};
 ghost use Rattle.workers.specs.Workers.{job_of, MayTake, Worked, TakesEach, AllWorked};
 ghost use Rattle.workers.specs.declared.jobs.Job.{Job};
 

@@ -1,5 +1,5 @@
 //! Several threads on one map.
-ghost use Rattle.std.specs.Prelude.{◌≡◌, All, IfOk};
+ghost use Rattle.std.specs.Prelude.{◌≡◌, All};
 
 use super::*;
 
