@@ -1,5 +1,5 @@
 //! Hex text: pairs of hexadecimal digits of either case, with blank space before, between and after them.
-ghost use Rattle.std.specs.Prelude.{◌≡◌, ◌↔◌, ◌<◌, ◌++◌, List, ℕ, IsTrue, IsSome, IfSome, IfNone, IfOk, IfErr, MatchResult, unwrap_or, option_to_list};
+ghost use Rattle.std.specs.Prelude.{◌≡◌, ◌↔◌, ◌<◌, ◌+◌, ◌*◌, ◌++◌, List, ℕ, IsTrue, IsSome, IfSome, IfNone, IfOk, IfErr, MatchResult, unwrap_or, option_to_list};
 ghost use Rattle.map_commands.specs.Hex.{Piece, IsPiece, IsBlank, digit_of, piece_text, piece_bytes, HasNoPiece, SpellsBytes};
 ghost use Rattle.map_commands.specs.HexFaults.{TellsFault};
 

@@ -1,5 +1,5 @@
 //! The service of one client: its own table, and the programs that it registers.
-ghost use Rattle.std.specs.Prelude.{◌≡◌, ◌≢◌, ◌↔◌, ℕ, List, [], ◌∷◌, Option, false, option_copied, slice_get, IfOk, IsErrOf};
+ghost use Rattle.std.specs.Prelude.{◌≡◌, ◌≢◌, ◌+◌, ◌↔◌, ℕ, List, [], ◌∷◌, Option, false, option_copied, slice_get, IfOk, IsErrOf};
 ghost use Rattle.std.specs.Io.KnownBytes.{Appends, Consumes, IsAtEnd};
 ghost use Rattle.atomic_methods.specs.Hashes.{IsStripeCount};
 ghost use Rattle.client_protocol.specs.declared.limits.Version.{Version as TheVersion};

@@ -1,7 +1,7 @@
 //! A session of one client: it reads pieces, and answers the requests in each before it reads the next one.
 //!
 //! The loop knows no table: the caller passes a function that answers the requests.
-ghost use Rattle.std.specs.Prelude.{◌≡◌, ◌≢◌, ℕ, List, false};
+ghost use Rattle.std.specs.Prelude.{◌≡◌, ◌≢◌, ◌+◌, ℕ, List, false};
 ghost use Rattle.std.specs.Io.KnownBytes.{Appends, Consumes, IsAtEnd};
 ghost use Rattle.sessions.specs.Conversations.{AnswersBy};
 ghost use Rattle.devices.specs.Devices.{CanRead, CanWrite};
