@@ -1,6 +1,7 @@
 -- Stored rows of entries: their columns, what a comparison says of them, and which rows are left when some are taken out.
-use Rattle.std.proofs.Common.{◌≡◌, ◌∙◌, ◌⊎◌, ℕ, ℤ, Bool, true, false, List, [], ◌∷◌, map, drop, filter, Some, None, IsTrue, refl, sym, ap, subst, inl, inr, true≢false, Ordering, Less, Equal, Greater, is_eq}
+use Rattle.std.proofs.Common.{◌≡◌, ◌∙◌, ◌⊎◌, ℕ, ℤ, Bool, true, false, List, [], ◌∷◌, map, drop, filter, Some, None, IsTrue, refl, sym, ap, subst, subst₂, inl, inr, true≢false, Ordering, Less, Equal, Greater, is_eq}
 use Rattle.std.specs.List.{AllByRecursion}
+use Rattle.std.specs.Ordering.{is_ne}
 use Rattle.std.proofs.lemmas.Bool.{and_parts, cases_Bool, not-true}
 use Rattle.std.proofs.lemmas.Cmp.{tied_itself}
 use Rattle.std.proofs.lemmas.Map.Lookups.{exact_signed, exact_bytes}
@@ -13,7 +14,7 @@ use Rattle.sqlite_trees.specs.Tree.{rowid, has_rowid, IsTable, without_rowid, pu
 use Rattle.sqlite_trees.specs.View.{is_int}
 use Rattle.sqlite_trees.proofs.TreeLemmas.{IsTable-put_row}
 use Rattle.sqlite_sql.specs.Ops.{binary, is_true}
-use Rattle.sqlite_schema.specs.Rules.{equal, are_typed}
+use Rattle.sqlite_schema.specs.Rules.{equal, differ, are_typed}
 use Rattle.sqlite_rules.specs.Lists.{Has}
 use Rattle.sqlite_rules.specs.Edit.{id_in, without_all, row_at}
 use Rattle.sqlite_rules.specs.Calls.{ids_of}
@@ -88,6 +89,20 @@ equals_bytes v b (inr is) h =
 pub bytes_equal : (v : Value) (b : List ℕ) → v ≡ Blob b → equal Binary v (Blob b) ≡ true
 unfolding binary
 bytes_equal v b is = subst (λ w. equal Binary w (Blob b) ≡ true) (sym is) (true_of _ ∙ ap is_eq (tied_itself value_cmp_total (Blob b)))
+
+not_ne : (o : Ordering) → is_ne o ≡ false → o ≡ Equal
+not_ne Less h = absurd cc
+not_ne Equal h = refl
+not_ne Greater h = absurd cc
+
+-- two numbers that do not differ are one
+pub differ_not : (a b : Value) → IsTrue (is_int a) → IsTrue (is_int b) → differ a b ≡ false → a ≡ b
+unfolding binary
+differ_not a b int also h =
+    let m = int_is a int in
+    let n = int_is b also in
+    let e : is_ne (value_cmp (Int (id_in a)) (Int (id_in b))) ≡ false = sym (true_of _) ∙ subst₂ (λ x y. differ x y ≡ false) m n h in
+    m ∙ ap Int (exact_signed (id_in a) (id_in b) (not_ne _ (ap is_ne (sym (value_cmp-Int (id_in a) (id_in b))) ∙ e))) ∙ sym n
 
 -- ---- rows that are taken out
 

@@ -1,5 +1,5 @@
 -- What the texts of a save mean over the tables of a file.
-use Rattle.std.proofs.Common.{◌≡◌, ℕ, ◌+◌, pos, negsuc, List, [], ◌∷◌, codes, false, None, Ok, refl}
+use Rattle.std.proofs.Common.{◌≡◌, ℕ, ◌+◌, pos, negsuc, List, [], ◌∷◌, codes, false, None, Some, Ok, refl}
 use Rattle.sqlite.specs.Collation.TheVariants.{Binary}
 use Rattle.sqlite.specs.declared.types.Value.TheVariants.{Null, Int}
 use Rattle.sqlite.specs.Term.{Term, lit, col, op2}
@@ -9,7 +9,8 @@ use Rattle.sqlite.specs.Command.TheVariants.{Insert, InsertOr, Delete, Select}
 use Rattle.sqlite.specs.Compile.{compiled, table_defined_by}
 use Rattle.sqlite.specs.Listing.{understood, reads_listing, if_select, listing_schema}
 use Rattle.sqlite.proofs.Callers.{IsPlain, command_of}
-use Rattle.sqlite_schema.specs.declared.command.Conflict.TheVariants.{Replace}
+use Rattle.sqlite_schema.specs.declared.command.Conflict.TheVariants.{Abort, Replace}
+use Rattle.sqlite_schema.specs.declared.command.Upsert.{Upsert}
 use Rattle.sqlite_schema.specs.declared.program.Program.{Program}
 use Rattle.sqlite_sql.specs.declared.ops.BinaryOp.TheVariants.{Compare}
 use Rattle.sqlite_sql.specs.declared.ops.CompareOp.TheVariants.{Eq}
@@ -63,7 +64,21 @@ query_of = query_in 4
 abbrev pub program_of : Query → Program
 program_of query = record { lets = []; body = query }
 
-pub put_is : command_of (understood kept_schema schema.PUT.now) ≡ InsertOr 3 Replace (Values put_terms 5) []
+-- the row whose number is given after the parameters
+abbrev pub put_filter : List Term
+put_filter = op2 (Compare Eq Binary) (col 1 0) (col 0 4) ∷ []
+
+-- .. with the value and the deadline of the row that is given after that
+abbrev pub put_columns : List Term
+put_columns = col 1 0 ∷ col 1 0 ∷ col 1 1 ∷ col 1 2 ∷ col 0 8 ∷ col 0 9 ∷ []
+
+abbrev pub put_over : Program
+put_over = program_of (query_of put_filter put_columns)
+
+abbrev pub put_clause : Upsert
+put_clause = record { target = Some (1 ∷ 2 ∷ []); update = Some put_over }
+
+pub put_is : command_of (understood kept_schema schema.PUT.now) ≡ InsertOr 3 Abort (Values put_terms 5) (put_clause ∷ [])
 unfolding understood everything
 put_is = refl
 

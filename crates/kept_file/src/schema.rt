@@ -22,8 +22,9 @@ pub(crate) const ENTRIES: &str =
 pub(crate) const SET: &str = "INSERT OR REPLACE INTO settings (name, value) VALUES (?1, ?2)";
 
 /// Enters a row of an entry, in place of the one that its key had in this stripe.
+/// A row that is there keeps its number and its key, so the index of the keys stays as it is.
 pub(crate) const PUT: &str =
-    "INSERT OR REPLACE INTO entries (stripe, key, value, deadline) VALUES (?1, ?2, ?3, ?4)";
+    "INSERT INTO entries (stripe, key, value, deadline) VALUES (?1, ?2, ?3, ?4) ON CONFLICT (stripe, key) DO UPDATE SET value = excluded.value, deadline = excluded.deadline";
 
 /// Removes the row of a key in a stripe.
 pub(crate) const REMOVE: &str = "DELETE FROM entries WHERE stripe = ?1 AND key = ?2";
