@@ -12,7 +12,7 @@ use bpf_model::NoMemory;
 use std::alloc::Global;
 use std::sync::Wait;
 use std::thread::Threads;
-use workers::work;
+use workers::{Execution, work};
 
 /// Counts the worker's stripes, one after the other.
 fn count_turns<R: Wait, G: Gate>(rt: &R, worker: &Turns<'_>, gate: &G, pass: &mut Pass) -> u64
@@ -44,14 +44,14 @@ fn total(counts: &[u64]) -> u64
     sum
 }
 
-/// Returns the number of entries, with one scan of each stripe. Returns `NoMemory` if a request for the lists of the team's
-/// workers is refused; no entry is copied. Waits until each stripe is free.
-pub fn mapping_count<R: Threads + Wait + Sync, G: Gate + Sync>(
+/// Adds up what the team's workers count, in threads as the execution tells.
+fn counted<R: Threads + Wait + Sync, G: Gate + Sync>(
     rt: &R,
     alloc: Global,
     map: &StripedMap,
     team: Team,
     gate: &G,
+    execution: Execution,
 ) -> (Team, Result<WalkReply, NoMemory>)
     requires { All (λ pass. pass.map ≡ map.now) team.passes.items }
     ensures map { All (λ pass. pass.map ≡ map.now) result.0.passes.items }
@@ -72,10 +72,42 @@ pub fn mapping_count<R: Threads + Wait + Sync, G: Gate + Sync>(
         };
         count_turns(rt, &worker, gate, pass)
     };
-    let (passes, answers) = work(rt, alloc, passes, &call);
+    let (passes, answers) = work(rt, alloc, passes, &call, execution);
     let team = Team { passes };
     let Ok(counts) = answers else {
         return (team, Err(NoMemory));
     };
     (team, Ok(count_of(alloc, total(&counts))))
+}
+
+/// Returns the number of entries, with one scan of each stripe. Returns `NoMemory` if a request for the lists of the team's
+/// workers is refused; no entry is copied. Waits until each stripe is free.
+pub fn mapping_count<R: Threads + Wait + Sync, G: Gate + Sync>(
+    rt: &R,
+    alloc: Global,
+    map: &StripedMap,
+    team: Team,
+    gate: &G,
+) -> (Team, Result<WalkReply, NoMemory>)
+    requires { All (λ pass. pass.map ≡ map.now) team.passes.items }
+    ensures map { All (λ pass. pass.map ≡ map.now) result.0.passes.items }
+    ensures walked { MatchResult result.1 (λ reply. CountsAll (stripes_of map.now) team.passes.items result.0.passes.items reply) (λ _. AllWalked (stripes_of map.now) MayScan team.passes.items result.0.passes.items) }
+{
+    counted(rt, alloc, map, team, gate, Execution::Parallel)
+}
+
+/// As `mapping_count`, but the calling thread counts for all of the team's workers, one after the other. A stripe knows its number
+/// of entries, so this takes far less time than threads that have to be started.
+pub fn mapping_count_in_turn<R: Threads + Wait + Sync, G: Gate + Sync>(
+    rt: &R,
+    alloc: Global,
+    map: &StripedMap,
+    team: Team,
+    gate: &G,
+) -> (Team, Result<WalkReply, NoMemory>)
+    requires { All (λ pass. pass.map ≡ map.now) team.passes.items }
+    ensures map { All (λ pass. pass.map ≡ map.now) result.0.passes.items }
+    ensures walked { MatchResult result.1 (λ reply. CountsAll (stripes_of map.now) team.passes.items result.0.passes.items reply) (λ _. AllWalked (stripes_of map.now) MayScan team.passes.items result.0.passes.items) }
+{
+    counted(rt, alloc, map, team, gate, Execution::Sequential)
 }

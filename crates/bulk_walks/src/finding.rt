@@ -13,7 +13,7 @@ use bpf_model::NoMemory;
 use std::alloc::Global;
 use std::sync::Wait;
 use std::thread::Threads;
-use workers::work;
+use workers::{Execution, work};
 
 /// Scans the worker's stripes, one after the other, and runs the program on their entries as soon as it may.
 fn run_turns<R: Wait, G: Gate>(
@@ -83,7 +83,7 @@ pub(crate) fn find<R: Threads + Wait + Sync, G: Gate + Sync>(
         };
         run_turns(rt, alloc, &worker, walk, gate, pass)
     };
-    let (passes, answers) = work(rt, alloc, passes, &call);
+    let (passes, answers) = work(rt, alloc, passes, &call, Execution::Parallel);
     let Ok(answers) = answers else {
         return (passes, Err(NoMemory));
     };

@@ -24,7 +24,7 @@ mod walks;
 
 pub use alike::is_same_reply;
 pub use atomic_methods::{WalkKind, WalkReply};
-pub use count::mapping_count;
+pub use count::{mapping_count, mapping_count_in_turn};
 pub use replace::replace_all;
 pub use team::{EmptyTeam, Team};
 pub use walk::Walk;

@@ -15,7 +15,7 @@ use std::alloc::Global;
 use std::sync::Wait;
 use std::thread::Threads;
 use verifier::Verified;
-use workers::work;
+use workers::{Execution, work};
 
 /// Adds these counts.
 pub(crate) fn add(total: &mut Counts, more: Counts)
@@ -109,7 +109,7 @@ pub fn replace_all<R: Threads + Wait + Sync, G: Gate + Sync>(
         };
         replace_turns(rt, &worker, program, arg, gate, pass)
     };
-    let (passes, answers) = work(rt, alloc, passes, &call);
+    let (passes, answers) = work(rt, alloc, passes, &call, Execution::Parallel);
     let team = Team { passes };
     let Ok(answers) = answers else {
         return (team, Err(NoMemory));

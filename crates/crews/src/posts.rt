@@ -19,7 +19,7 @@ use server_state::ServerState;
 use std::marker::Model;
 use std::sync::Wait;
 use std::thread::Threads;
-use workers::work;
+use workers::{Execution, work};
 
 /// A crew, and the clients that it attends.
 #[derive(Drop)]
@@ -114,7 +114,7 @@ pub fn attend_each<
             *seat = Some(Post { crew, clients });
         }
     };
-    let (seats, answers) = work(worker.rt, alloc, seats, &call);
+    let (seats, answers) = work(worker.rt, alloc, seats, &call, Execution::Parallel);
     let Ok(_) = answers else {
         return Err(NoMemory);
     };

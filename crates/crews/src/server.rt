@@ -15,7 +15,7 @@ use program_registry::Registry;
 use std::alloc::Global;
 use std::sync::Wait;
 use std::thread::Threads;
-use workers::work;
+use workers::{Execution, work};
 
 /// Serves the worker's clients, one after the other.
 #[tactic(auto, using(crate::proofs::ServeLemmas::carries_same, crate::proofs::ServeLemmas::carries_on))]
@@ -93,7 +93,7 @@ pub fn serve<
             *seat = Some(serve_clients(&worker, accept, crew));
         }
     };
-    let (seats, answers) = work(rt, alloc, seats, &call);
+    let (seats, answers) = work(rt, alloc, seats, &call, Execution::Parallel);
     let Ok(_) = answers else {
         return Err(NoMemory);
     };

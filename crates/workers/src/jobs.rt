@@ -7,7 +7,16 @@ ghost use Rattle.workers.specs.declared.jobs.Job.{Job};
 use crate::apart::for_each_apart;
 use bpf_model::NoMemory;
 use std::alloc::Global;
-use std::thread::Threads;
+use std::thread::{self, Threads};
+
+/// In which threads the calls for a list are made.
+#[derive(Clone, Copy, Debug, PartialEq, Eq)]
+pub enum Execution {
+    /// Each in a thread of its own if one can be made, and if there are several.
+    Parallel,
+    /// All in the calling thread, one after the other.
+    Sequential,
+}
 
 /// One worker's input and answer.
 #[derive(Drop)]
@@ -16,14 +25,15 @@ struct Job<X, T> {
     answer: Option<T>,
 }
 
-/// Calls `f(i, &mut x)` for each element `x` at its place `i`, each in a thread of its own if one can be made, and waits for all
-/// of them. Returns the elements in their order, with the answers of the calls. `NoMemory` if a request for the lists of jobs is
-/// refused; then nothing was called.
+/// Calls `f(i, &mut x)` for each element `x` at its place `i`, in threads as the execution tells, and waits for all of them. Returns
+/// the elements in their order, with the answers of the calls. `NoMemory` if a request for the lists of jobs is refused; then nothing
+/// was called.
 pub fn work<R: Threads + Sync, X: Send + Drop, T: Send + Drop, F: Fn(usize, &mut X) -> T + Sync>(
     rt: &R,
     alloc: Global,
     all: Vec<X>,
     f: &F,
+    execution: Execution,
 ) -> (Vec<X>, Result<Vec<T>, NoMemory>)
     requires { TakesEach F.Fn f.now all.items }
     ensures { MatchResult result.1 (λ rs. AllWorked F.Fn f.now all.items rs.items result.0.items) (λ _. result.0.items ≡ all.items) }
@@ -39,7 +49,7 @@ pub fn work<R: Threads + Sync, X: Send + Drop, T: Send + Drop, F: Fn(usize, &mut
         return (all, Err(NoMemory));
     };
     let mut jobs = given_out(all, jobs);
-    run(rt, &mut jobs, f);
+    run(rt, &mut jobs, f, execution);
     let (left, answers) = handed_back(jobs, left, answers);
     (left, Ok(answers))
 }
@@ -96,6 +106,7 @@ fn run<R: Threads + Sync, X: Send + Drop, T: Send + Drop, F: Fn(usize, &mut X) -
     rt: &R,
     jobs: &mut [Job<X, T>],
     f: &F,
+    execution: Execution,
 )
     requires { (i : ℕ) (d : Job X T) → i < length jobs.old → MayTake F.Fn f.now i (slice_index_or jobs.old i d).own }
     ensures { (length jobs.new ≡ length jobs.old) × ((i : ℕ) (d : Job X T) → i < length jobs.old → IsSomeAnd (slice_index_or jobs.new i d).answer (λ r. Worked F.Fn f.now i (slice_index_or jobs.old i d).own r (slice_index_or jobs.new i d).own)) }
@@ -104,5 +115,8 @@ fn run<R: Threads + Sync, X: Send + Drop, T: Send + Drop, F: Fn(usize, &mut X) -
         requires { MayTake F.Fn f.now i job.old.own }
         ensures { IsSomeAnd job.new.answer (λ r. Worked F.Fn f.entry.now i job.old.own r job.new.own) }
     { one(f, i, job) };
-    for_each_apart(rt, jobs, &call);
+    match execution {
+        Execution::Parallel => for_each_apart(rt, jobs, &call),
+        Execution::Sequential => thread::for_each_mut(rt, jobs, 1, &call),
+    }
 }

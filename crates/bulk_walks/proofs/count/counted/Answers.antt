@@ -4,8 +4,8 @@ use Rattle.bin_stripes.specs.Passes.{PassState, stripes_of}
 use Rattle.bulk_walks.specs.Walks.{sum_below}
 use Rattle.bulk_walks.specs.Turns.{CountsTurns, EachCounts}
 use Rattle.bulk_walks.proofs.TeamLemmas.{at_most_64, counts_fit, counts_all, head_of}
-use Rattle.bulk_walks.proofs.count.mapping_count.Goals as goal
-use Rattle.bulk_walks.proofs.count.mapping_count.Goals.{After-deref}
+use Rattle.bulk_walks.proofs.count.counted.Goals as goal
+use Rattle.bulk_walks.proofs.count.counted.Goals.{After-deref}
 
 -- the work of worker i
 abbrev Does : TableId → ℕ → ℕ → PassState → ℕ → PassState → Type 0
