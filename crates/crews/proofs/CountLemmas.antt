@@ -1,8 +1,10 @@
 -- How many clients are there, and how many seats are taken.
-use Rattle.std.proofs.Common.{◌≡◌, ℕ, zero, suc, ◌+◌, List, [], ◌∷◌, Option, Some, None, is_some, count_by, slice_index_or, ◌<◌, ◌≤◌, inl, inr, refl, sym, subst, ◌∙◌, arith}
+use Rattle.std.proofs.Common.{◌≡◌, ℕ, zero, suc, ◌+◌, List, [], ◌∷◌, Option, Some, None, is_some, count_by, slice_index_or, cond, ap, IsSome, ◌<◌, ◌≤◌, inl, inr, refl, sym, subst, ◌∙◌, arith}
 use Rattle.std.proofs.lemmas.Bool.{cases_eq, cases_lt}
 use Rattle.program_registry.specs.declared.registry.Registry.{Registry}
-use Rattle.slab.specs.Slab.{Slab, get, Updates, slab_len}
+use Rattle.std.proofs.lemmas.List.Sums.{sum_by-set}
+use Rattle.slab.specs.Slab.{Slab, get, with_value, Updates, slab_len}
+use Rattle.slab.proofs.SlabLemmas.{ContainsKey-within}
 use Rattle.crews.specs.Arrivals.{CountGoes}
 
 module _ {P : Type 0} (there : P → ℕ → Type 0) where
@@ -20,6 +22,15 @@ module _ {P : Type 0} (there : P → ℕ → Type 0) where
 -- the same of the registry that the client's tokens are of
 pub counts_of : {P : Type 0} (there : Registry → P → ℕ → Type 0) (one other : Registry) (a b : P) (i j : ℕ) → one ≡ other → CountGoes (there one) a i b j → CountGoes (there other) a i b j
 counts_of there one other a b i j same goes = subst (λ (r : Registry). CountGoes (there r) a i b j) same goes
+
+-- as many seats are taken when another sits in one
+pub same_count : {T : Type 0} (seats : Slab T) (seat : ℕ) (was one : T) → Some was ≡ get seats seat → slab_len (with_value seats seat one) ≡ slab_len seats
+same_count {T} seats seat was one here =
+    let f : Option T → ℕ = λ slot. cond (is_some slot) 1 0 in
+    let within = ContainsKey-within seats seat (subst (λ (slot : Option T). IsSome slot) here refl) in
+    let taken : f (get seats seat) ≡ 1 = ap f (sym here) in
+    let after : count_by is_some (with_value seats seat one).slots + f (get seats seat) ≡ count_by is_some seats.slots + 1 = sum_by-set f seats.slots seat (Some one) None within in
+    omega (arith, taken, after)
 
 -- no seat is taken
 some_none : {T : Type 0} (one : T) → Some one ≡ None → ⊥

@@ -1,10 +1,11 @@
 -- Clients that leave their seats, have turns, and take seats.
-use Rattle.std.proofs.Common.{◌≡◌, ℕ, ◌+◌, ◌<◌, List, [], ◌∷◌, ◌++◌, take, drop, Option, Some, None, refl, sym, ap, subst, ◌∙◌, append-nil, append_assoc, take-append-drop, slice_index_or, inl, inr, arith}
+use Rattle.std.proofs.Common.{◌≡◌, ℕ, ◌+◌, ◌<◌, List, [], ◌∷◌, ◌++◌, take, drop, Option, Some, None, refl, sym, ap, subst, ◌∙◌, append-nil, append_assoc, take-append-drop, slice_index_or, slice_set, IsSome, inl, inr, arith}
 use Rattle.std.proofs.lemmas.Bool.{cases_eq}
 use Rattle.std.proofs.KnownBytes.{Appends-nil, Appends-kept, Appends-trans, Consumes-nil, Consumes-kept}
 use Rattle.std.specs.Io.KnownBytes.{Appends, Consumes, Keeps}
 use Rattle.bin_stripes.specs.Passes.{PassState, ServesSameMap}
-use Rattle.slab.specs.Slab.{Slab, get, Updates}
+use Rattle.slab.specs.Slab.{Slab, get, ContainsKey, Updates, with_value}
+use Rattle.slab.proofs.SlabLemmas.{ContainsKey-within, Updates-set, Updates-with_value}
 use Rattle.devices.specs.Channels.{ChannelState, Sends}
 use Rattle.sessions.specs.OwedAnswers.{OwedState}
 use Rattle.devices.specs.declared.channel.Sent.{Sent}
@@ -309,6 +310,30 @@ module _ {C : Type 0} (state : C → ChannelState) (gave : PassState → C → P
           (came, subst (λ (j : ℕ). HasCome gave old (turns ++ more) new j came) (sym same) (come_on old turns more mid new k came come moves), subst (λ (j : ℕ). Stands state registry password came is.channel (exchanges_of j (turns ++ more)) is.tokens is.talk is.owed is.leaving) (sym same) grown),
         ),
       )
+
+  -- the client has had a turn in its seat
+  pub sat_turn : (old : Known) (turns : List Turn) (mid new : Known) (n : ℕ) (seats : Slab (Client C)) (seat : ℕ) (was is : Client C)
+      → Some was ≡ get seats seat → is.number ≡ was.number
+      → ((came : Arrival C) (exchanges : List (Exchange Station)) → Stands state registry password came was.channel exchanges was.tokens was.talk was.owed was.leaving → TurnsTo state registry password mid new came is.channel exchanges is.tokens is.talk is.owed is.leaving)
+      → IsAttended state gave registry password old turns mid n seats
+      → (more : List Turn) × IsAttended state gave registry password old (turns ++ more) new n (with_value seats seat is) × IsClient state gave registry password old (turns ++ more) new n is
+  sat_turn old turns mid new n seats seat was is here same goes attended =
+      let (more, left, none, stands) = has_turn old turns mid new n seats out seat was is here leaves same goes attended in
+      (more, seat_taken old (turns ++ more) new n out (with_value seats seat is) seat is sits left none stands, stands) where
+        out : Slab (Client C)
+        out = record seats { slots = slice_set seats.slots seat None }
+
+        there : ContainsKey seats seat
+        there = subst (λ (slot : Option (Client C)). IsSome slot) here refl
+
+        leaves : Updates seats out seat None
+        leaves = Updates-set seats out seat None (ContainsKey-within seats seat there) refl
+
+        sits : Updates out (with_value seats seat is) seat (Some is)
+        sits = record {
+          changed = (Updates-with_value seats seat is there).changed;
+          others = λ other differs. (Updates-with_value seats seat is there).others other differs ∙ sym (leaves.others other differs);
+        }
 
   -- the worker sweeps: the pass knows more, and nothing else changes
   pub has_swept : (old : Known) (turns : List Turn) (mid new : Known) (n time : ℕ) (seats : Slab (Client C)) → Sweeps time mid.pass new.pass → ServesSameMap mid.pass new.pass

@@ -1,7 +1,6 @@
 //! How a piece of a client's bytes is answered, by the protocol that the client speaks.
 ghost use Rattle.std.specs.Prelude.{◌≡◌, ◌≢◌, ◌≤◌, ℕ, List, ◌++◌, length, take, Option, None, Some, Err, MatchResult, false};
 ghost use Rattle.bin_stripes.specs.Passes.{ServesSameMap};
-ghost use Rattle.client_protocol.specs.Faults.{protocol_fault_number};
 ghost use Rattle.redis_service.specs.Lines.{no_memory_line};
 ghost use Rattle.redis_service.specs.Sweeps.{Sweeps};
 ghost use Rattle.sessions.specs.Conversations.{Exchange as TheExchange};

@@ -6,7 +6,7 @@ ghost use Rattle.devices.specs.Channels.{Sends};
 ghost use Rattle.server_state.specs.Passwords.{lent};
 ghost use Rattle.crews.specs.Arrivals.{CountGoes};
 ghost use Rattle.crews.specs.Crews.{IsCrewOf, CarriesSame};
-ghost use Rattle.crews.specs.Lives.{Arrival, Known, known, known_of, Turn, HasLived};
+ghost use Rattle.crews.specs.Lives.{Known, known, known_of, Turn, HasLived};
 ghost use Rattle.crews.specs.Partings.{not_kept_told};
 ghost use Rattle.crews.specs.Stations.{no_tokens};
 ghost use Rattle.crews.specs.Seats.{HasNone, IsAttended, IsClient};
@@ -79,6 +79,11 @@ fn turn_away<C: Channel, P: Clients<C>>(
     clients.ended(pass, None, channel, tokens, Parting::NotKept);
 }
 
+/// Whether a client for which the server keeps this many bytes has to go, since it keeps more for its clients than it may.
+fn is_too_much(state: &ServerState, worker: u32, bytes: u64) -> bool {
+    bytes > FAIR_BYTES && state.is_crowded(worker)
+}
+
 impl<'a, 'r, C: Channel + Drop> Attendant<'a, 'r, C> {
     /// The number that tells the next client from others, also from those of other workers.
     fn next_number(&self) -> u64 {
@@ -121,11 +126,6 @@ impl<'a, 'r, C: Channel + Drop> Attendant<'a, 'r, C> {
         self.came = came;
     }
 
-    /// Whether the client has to go, since more is kept for the server's clients than may be, and some of it for this one.
-    fn is_too_much(&self, client: &Client<'a, C>) -> bool {
-        client.bytes() > FAIR_BYTES && self.state.is_crowded(self.room.number)
-    }
-
     /// The client, which has left its seat for a turn, takes it again, or is gone.
     fn go_on<P: Clients<C>>(
         &mut self,
@@ -145,8 +145,9 @@ impl<'a, 'r, C: Channel + Drop> Attendant<'a, 'r, C> {
             → IsClient C.state P.gave registry password old turns (known self.old.room.serving) self.old.came client.entry
             → IsAttended C.state P.gave registry password old turns (known self.new.room.serving) self.new.came self.new.seats }
     {
-        if client.has_left() || self.is_too_much(&client) {
-            self.room.counts.count_kept(client.bytes(), 0);
+        let bytes = client.bytes();
+        if client.has_left() || is_too_much(self.state, self.room.number, bytes) {
+            self.room.counts.count_kept(bytes, 0);
             client.part(clients, self.room.serving.pass(), seat);
             return;
         }
@@ -173,13 +174,17 @@ impl<'a, 'r, C: Channel + Drop> Attendant<'a, 'r, C> {
             → (more : List Turn)
             × IsAttended C.state P.gave registry password old (turns ++ more) (known self.new.room.serving) self.new.came self.new.seats }
     {
-        let Some(mut client) = self.seats.try_remove(seat) else {
+        let Some(client) = self.seats.get_mut(seat) else {
             return;
         };
         let before = client.bytes();
         let standing = client.turn(worker, &mut self.room, clients);
-        self.room.counts.count_kept(before, client.bytes());
-        self.go_on(clients, seat, client, standing);
+        let after = client.bytes();
+        self.room.counts.count_kept(before, after);
+        if client.has_left() || is_too_much(self.state, self.room.number, after) {
+            return self.drop_one(clients, seat);
+        }
+        clients.served(seat, standing);
     }
 
     /// The client of this seat is let go, if there is one: at once if it was leaving already.
@@ -212,6 +217,7 @@ impl<'a, 'r, C: Channel + Drop> Attendant<'a, 'r, C> {
     fn drop_one<P: Clients<C>>(&mut self, clients: &mut P, seat: usize)
         requires attended { (registry : TheRegistry) × (password : Option (List ℕ)) × (old : Known) × (turns : List Turn)
             × IsAttended C.state P.gave registry password old turns (known self.old.room.serving) self.old.came self.old.seats }
+        ensures desk { self.new.room.desk ≡ self.old.room.desk }
         ensures gone { get self.new.seats seat ≡ None }
         ensures over { P.over clients.old → P.over clients.new }
         ensures others { (other : ℕ) → get self.old.seats other ≡ None → get self.new.seats other ≡ None }
