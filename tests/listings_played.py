@@ -193,6 +193,13 @@ def is_run_by_gate(block: Block, _: Tools) -> None:
     agree("$ rt run\n" + (ROOT / block.page).with_name("stdout").read_text(encoding="utf-8"), block.text)
 
 
+def is_told_of(block: Block, _: Tools) -> None:
+    """A run of the program of the crate that the block names. The gate runs it too; the page tells what it prints."""
+    crate = first(r"cd crates/(\w+)", block.text)
+    printed = (ROOT / "crates" / crate / "stdout").read_text(encoding="utf-8")
+    same("that the page tells it", f"prints `{printed.strip()}`" in (ROOT / block.page).read_text(encoding="utf-8"), True)
+
+
 def without_mending(text: str) -> Iterator[str]:
     """The lines of a program in C that is refused, without those that mend it."""
     is_kept = True
@@ -287,7 +294,7 @@ def query(block: Block, tools: Tools) -> None:
 
 # A page, which of its blocks (`is_meant` of listings.py says how that reads), and what is done with them.
 PLAYED: list[tuple[str, str, Play]] = [
-    ("README.md", "cd crates/bpfmap && rt try -- run ..", prints("bytes 03 00 00 00 00 00 00 00\n")),
+    ("README.md", "cd crates/counters && rt try", is_told_of),
     ("README.md", "cd crates/mapd && rt try --seconds 3600 -- --listen 127.0.0.1:7070", serves),
     ("README.md", "rt ci", is_in_gate),
     ("crates/bpf_assembler/README.md", r'let program = assemble(alloc, "mov64 r0, 8\nexit\n")?;', same_text),

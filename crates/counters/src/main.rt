@@ -15,7 +15,7 @@ use std::thread::{self, Threads};
 const THREADS: u64 = 4;
 
 /// How often each thread visits the page.
-const VISITS: u64 = 1000;
+const VISITS: u64 = 25;
 
 /// Takes the last of the passes.
 fn last_pass(counters: &Counters, passes: &mut Vec<Pass>) -> Result<Pass>
