@@ -1,11 +1,11 @@
 #!/usr/bin/env bash
 # Times the Redis port of mapd beside redis-server on loopback, both in one run and by turns: GET, SET, INCR, MSET of ten keys and EVALSHA
-# of a sum, over 50 and 1,000 connections that each have 1 and 16 requests on their way. In the same turns it times echo.c, which only reads
-# and writes: what the system takes of each. The client is redis_load.c, and at the end redis-benchmark. It prints the server's processor
-# time a request, in microseconds (medians of five rounds), thousands of requests a second, what ours come to of Redis', what both come to
-# without the time of echo.c, and the memory of a connection. Client and servers share the machine. By hand, not by the gate; some five
-# minutes. mapd and echo.c have one thread, as Redis has; with more a thread finds fewer requests each time that it wakes. MAPD names another
-# server than the one that the gate built; WORKERS (1), ROUNDS (5) and MILLISECONDS (500) may be given too.
+# of a sum, over 50 and 1,000 connections that each have 1 and 16 requests on their way, and over 16 with 1. In the same turns it times
+# echo.c, which only reads and writes: what the system takes of each. The client is redis_load.c, and at the end redis-benchmark. It prints
+# the server's processor time a request, in microseconds (medians of five rounds), thousands of requests a second, what ours come to of
+# Redis', what both come to without the time of echo.c, and the memory of a connection. Client and servers share the machine. By hand, not by
+# the gate; some six minutes. mapd and echo.c have one thread, as Redis has; with more a thread finds fewer requests each time that it wakes.
+# MAPD names another server than the one that the gate built; WORKERS (1), ROUNDS (5) and MILLISECONDS (500) may be given too.
 set -euo pipefail
 shopt -s inherit_errexit
 cd "$(dirname "$0")/.."
@@ -15,7 +15,7 @@ workers=${WORKERS:-1}
 rounds=${ROUNDS:-5}
 milliseconds=${MILLISECONDS:-500}
 operations=(get set incr mset evalsha)
-loads=("50 1" "50 16" "1000 1" "1000 16")
+loads=("16 1" "50 1" "50 16" "1000 1" "1000 16")
 work=$(mktemp -d)
 processes=()
 trap '[ ${#processes[@]} = 0 ] || kill "${processes[@]}" 2> /dev/null || true; rm -rf "$work"' EXIT

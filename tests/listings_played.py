@@ -106,7 +106,7 @@ def agree(found: str, wanted: str) -> None:
 def on_free_ports(text: str) -> str:
     """A block of a shell, with the built programs and with free ports in place of those of the page. If it starts a server, it waits for
     it, and what the server prints is left out."""
-    text = RT_TRY.sub(r"\1 ", text).replace("crates/mapd/out/mapd", "mapd").replace("../../", "").replace("< stdin", "< crates/bpfmap/stdin")
+    text = RT_TRY.sub(r"\1 ", text).replace("crates/mapd/out/mapd", "mapd").replace("../../", "")
     if "redis-cli -p" not in text:
         text = text.replace("redis-cli ", "redis-cli -p 6379 ")
     for port in ("7070", "6379"):
@@ -194,7 +194,7 @@ def is_run_by_gate(block: Block, _: Tools) -> None:
 
 
 def is_told_of(block: Block, _: Tools) -> None:
-    """A run of the program of the crate that the block names. The gate runs it too; the page tells what it prints."""
+    """A run of the program of the crate that the block names: the page tells what the gate wants of it."""
     crate = first(r"cd crates/(\w+)", block.text)
     printed = (ROOT / "crates" / crate / "stdout").read_text(encoding="utf-8")
     same("that the page tells it", f"prints `{printed.strip()}`" in (ROOT / block.page).read_text(encoding="utf-8"), True)

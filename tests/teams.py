@@ -1,6 +1,7 @@
 #!/usr/bin/env python3
 """Which threads of mapd walk. A ForEach with a long program goes over many entries: with a team of four, four threads work on it, and with
-a team of one, or below the walk's threshold, one. The system's counts of processor time say which threads worked.
+a team of one, or below the walk's threshold, one. And a Count starts no thread, where a ForEach does. The system's counts of processor time
+say which threads worked.
 
 By hand, after `rt run` in crates/mapd: python3 tests/teams.py. Another program is tried by --program."""
 from __future__ import annotations
@@ -9,6 +10,7 @@ import argparse
 import sys
 import threading
 from pathlib import Path
+from typing import Callable
 
 sys.path.insert(0, str(Path(__file__).resolve().parent))
 sys.dont_write_bytecode = True
@@ -20,6 +22,8 @@ SIZES = (64, 1024, 8, 8)
 ENTRIES = 40_000
 PIECE = 4_000
 FOR_EACH = 0x21
+# So many walks of an empty map, or Counts, are asked for.
+ASKED = 3_000
 # A thread worked if it used at least this many ticks of the system's clock, of which a second has a hundred.
 TICKS = 3
 
@@ -46,6 +50,29 @@ def threads_that_work(server: wire.Server, client: wire.Client, request: bytes) 
             most[thread] = ticks - before.get(thread, 0)
         asking.join(0.005)
     return sum(ticks >= TICKS for ticks in most.values())
+
+
+def ticks_of_ended(process: int) -> int:
+    """The processor time of the threads that have ended."""
+    fields = Path(f"/proc/{process}/stat").read_text().rsplit(")", 1)[1].split()
+    return int(fields[11]) + int(fields[12]) - sum(ticks_of(process).values())
+
+
+def starts_threads(server: wire.Server, ask: Callable[[], object]) -> bool:
+    """Asks again and again, and tells whether threads worked that have ended since."""
+    before = ticks_of_ended(server.process.pid)
+    for _ in range(ASKED):
+        ask()
+    return ticks_of_ended(server.process.pid) - before >= TICKS
+
+
+def try_counts(program: Path) -> None:
+    """Walks over an empty map with a team of four, and counts its entries."""
+    with wire.started(program, "--workers", "1", "--team", "4") as server, wire.opened(server.address, 2) as client:
+        number = int.from_bytes(client.ask(wire.register(SIZES, LONG))[1:], "big")
+        wire.same("that a ForEach starts threads", starts_threads(server, lambda: client.walk(for_each(number, 1))), True)
+        wire.same("that a Count starts threads", starts_threads(server, lambda: client.ask(wire.COUNT)), False)
+        print("teams: a ForEach by a team of four starts threads, a Count none")
 
 
 def put_all(client: wire.Client) -> None:
@@ -80,6 +107,7 @@ def main() -> None:
     try:
         for team in (4, 1):
             try_team(asked.program, team)
+        try_counts(asked.program)
     except (wire.Wrong, wire.Ended) as failure:
         sys.exit(f"teams: FAILED, {failure}")
 
