@@ -1,4 +1,4 @@
--- What a query of the entries' table finds.
+-- What a query of the batches' table finds.
 use Rattle.std.proofs.Common.{◌≡◌, ◌∙◌, ℕ, Bool, true, false, cond, List, [], ◌∷◌, ◌++◌, map, flat_map, refl, sym, ap, subst, inl, inr, IsPermutation}
 use Rattle.std.specs.List.{list_all}
 use Rattle.std.proofs.lemmas.List.Sorted.{IsPermutation-sym}
@@ -69,7 +69,7 @@ module _ (tree : ℕ) (filter project : List Term) (db : Database) (params : Row
             (mapped_has (λ (k : Output). k.1) answer.ordered o (has_permuted answer.ordered answer.kept o (IsPermutation-sym _ _ answer.same) there));
       }
 
--- .. of the entries
+-- .. of the batches
 pub shows_of : (filter project : List Term) (db : Database) (params : Row) (found : List Row) → Answers db (program_of (query_of filter project)) params found
     → ShowsOf (passing filter params) (λ row. eval_all project (beside params row)) (db.trees 4) found
 shows_of = shows_in 4

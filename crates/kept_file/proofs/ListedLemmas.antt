@@ -14,7 +14,7 @@ use Rattle.sqlite_value.specs.declared.value.Value.{Value}
 use Rattle.sqlite_value.specs.Order.{bytes, value_cmp}
 use Rattle.sqlite_trees.specs.Objects.{catalog_tree}
 use Rattle.sqlite_trees.specs.Sound as sound
-use Rattle.sqlite_trees.specs.Tree.{IsTable, put_row, rowid}
+use Rattle.sqlite_trees.specs.Tree.{IsTable, rowid}
 use Rattle.sqlite_catalog.specs.Listing.{IsViewRow, is_view_row}
 use Rattle.sqlite_catalog.proofs.SoundLemmas.{names_agree, list_parts}
 use Rattle.sqlite_catalog.proofs.AlterLemmas.{listed_free}
@@ -45,6 +45,7 @@ use Rattle.sqlite_resolve.specs.Program.{query, query_to, level, whole, alone, s
 use Rattle.sqlite_tied.specs.Compute.{everything}
 use Rattle.kept_file.specs.declared.tables.TheConstants.{OBJECTS}
 use Rattle.kept_file.proofs.AnswerLemmas.{beside, shows_in}
+use Rattle.kept_file.proofs.StoredLemmas.{put_last}
 use Rattle.kept_file.proofs.TextLemmas.{object_terms, objects_is, objects_plain}
 
 abbrev Name : Type 0
@@ -165,11 +166,6 @@ front object = column object 0 ∷ column object 1 ∷ column object 2 ∷ colum
 shown_rise : (objects : List Row) → IsTable objects → IsTable (map shown objects)
 shown_rise [] up = tt
 shown_rise (o ∷ more) up = (all_from _ (map shown more) (λ row h. let r = has_mapped shown more row h in rw r.2 (all_has _ more r.0 up.0 r.1)), shown_rise more up.1)
-
--- rows that rise are put after each other
-put_last : (xs : List Row) (x : Row) → AllByRecursion (λ r. value_cmp (rowid r) (rowid x) ≡ Less) xs → put_row x xs ≡ xs ++ x ∷ []
-put_last [] x low = refl
-put_last (r ∷ xs) x low = rw (low.0, put_last xs x low.1) refl
 
 below : (xs ys : List Row) (x : Row) → IsTable (xs ++ x ∷ ys) → AllByRecursion (λ r. value_cmp (rowid r) (rowid x) ≡ Less) xs
 below [] ys x up = tt

@@ -13,7 +13,7 @@ use Rattle.sqlite_resolve.specs.Compile.{compiled, command, first, meaning, plan
 use Rattle.sqlite_resolve.specs.Lowering.{and_then}
 use Rattle.sqlite.specs.Listing.{understood, reads_listing, if_select, is_select, listing_schema}
 use Rattle.sqlite_tied.specs.Compute.{everything}
-use Rattle.kept_file.specs.declared.entries.TheConstants.{ENTRIES}
+use Rattle.kept_file.specs.declared.batches.TheConstants.{BATCHES}
 use Rattle.kept_file.specs.declared.rows.TheConstants.{PROGRAMS, SCRIPTS}
 use Rattle.kept_file.specs.declared.query.TheConstants.{SETTING}
 use Rattle.kept_file.specs.declared.file.TheConstants.{COUNT_OBJECTS}
@@ -35,9 +35,9 @@ abbrev pub is_plain : Result Parsed CompileError → Bool
 is_plain (Ok p) = if is_query p.statement then is_nil p.formats else false
 is_plain (Err e) = false
 
-pub entries_query : is_plain (first ENTRIES.now) ≡ true
+pub batches_query : is_plain (first BATCHES.now) ≡ true
 unfolding everything
-entries_query = refl
+batches_query = refl
 
 pub programs_query : is_plain (first PROGRAMS.now) ≡ true
 unfolding everything

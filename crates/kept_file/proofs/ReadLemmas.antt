@@ -1,34 +1,38 @@
 -- What queries show of a file that they leave as it is.
-use Rattle.std.proofs.Common.{true, false, ◌≡◌, ◌∙◌, ℕ, IsSome, List, [], ◌∷◌, ◌++◌, map, Option, Some, None, Result, Ok, Err, refl, sym, ap, subst, inl, inr, arith}
-use Rattle.std.proofs.lemmas.List.{map-append}
+use Rattle.std.proofs.Common.{true, false, ◌≡◌, ◌∙◌, ℕ, ◌<◌, ◌≤◌, pos, IsSome, List, [], ◌∷◌, ◌++◌, map, Option, Some, None, Result, Ok, Err, refl, sym, ap, subst, inl, inr, arith, Less}
+use Rattle.std.specs.List.{AllByRecursion}
+use Rattle.std.proofs.lemmas.Bool.Decides.{nat_tests}
 use Rattle.sqlite.specs.Given.{Advances, HasGiven, HasBegun, Returns}
 use Rattle.sqlite.specs.Held.{Held, state}
 use Rattle.sqlite.specs.Effect.{Database}
 use Rattle.sqlite.specs.Listing.{understood, reads_listing, IsSourceOf}
-use Rattle.sqlite.specs.Order.{Row}
+use Rattle.sqlite.specs.Order.{Row, value_cmp}
 use Rattle.sqlite.specs.Clock.{timed}
 use Rattle.sqlite.specs.Store as store
-use Rattle.sqlite.specs.Tree.{Trees}
+use Rattle.sqlite.specs.Tree.{Trees, IsTable, rowid}
 use Rattle.sqlite.specs.State.{State, HasCleanDisk, IsStatement, IsUnchanged, FailsToQuery, IsNotRun, FailsToShow, QueriesRow, store_error, Shown, ShowsRows, Survives, CommitsShowing}
 use Rattle.sqlite.specs.declared.error.Error.TheVariants.{QueryReturnedNoRows}
 use Rattle.sqlite.proofs.Callers.{unchanged_then}
 use Rattle.sqlite.proofs.StateLemmas.{survives_then, survives_weaker}
 use Rattle.sqlite_trees.specs.declared.error.StoreError.{StoreError}
 use Rattle.sqlite_trees.specs.declared.error.StoreError.TheVariants.{OutOfMemory, Io, Corrupt, Full, Broken, Unstorable}
+use Rattle.sqlite_value.proofs.OrderLemmas.{value_cmp-Int}
+use Rattle.sqlite_rules.specs.Lists.{Has}
+use Rattle.sqlite_rules.proofs.ListLemmas.{all_has, all_from, has_either}
 use Rattle.sqlite_resolve.specs.declared.error.CompileError.{CompileError}
 use Rattle.sqlite_resolve.specs.declared.compiled.Compiled.{Compiled}
-use Rattle.kept_file.specs.Reading.{HandedOut, HandsOut, HasEntries, HasPrograms, HasScripts, OnlyReads, row_of, row_of_program}
-use Rattle.kept_file.specs.declared.entries.KeptEntry.{KeptEntry}
+use Rattle.kept_file.specs.Reading.{HandedOut, HandsOut, HasPrograms, HasScripts, OnlyReads, RisesTo, ShowsBatches, row_of_program}
+use Rattle.kept_file.specs.Rows.{batch_row, number}
 use Rattle.kept_file.specs.declared.rows.KeptProgram.{KeptProgram}
-use Rattle.kept_file.specs.declared.entries.TheConstants.{ENTRIES}
+use Rattle.kept_file.specs.declared.batches.TheConstants.{BATCHES}
 use Rattle.kept_file.specs.declared.rows.TheConstants.{PROGRAMS, SCRIPTS}
 use Rattle.kept_file.specs.declared.query.TheConstants.{SETTING}
 use Rattle.kept_file.specs.declared.file.TheConstants.{COUNT_OBJECTS}
 use Rattle.kept_file.specs.declared.tables.TheConstants.{OBJECTS}
-use Rattle.kept_file.proofs.QueryLemmas.{query_plain, entries_query, programs_query, scripts_query, setting_query, objects_query, count_query}
+use Rattle.kept_file.proofs.QueryLemmas.{query_plain, batches_query, programs_query, scripts_query, setting_query, objects_query, count_query}
 
-pub entries_read : OnlyReads ENTRIES.now
-entries_read schema c is = query_plain schema ENTRIES.now c entries_query is
+pub batches_read : OnlyReads BATCHES.now
+batches_read schema c is = query_plain schema BATCHES.now c batches_query is
 
 pub programs_read : OnlyReads PROGRAMS.now
 programs_read schema c is = query_plain schema PROGRAMS.now c programs_query is
@@ -136,28 +140,25 @@ module _ {S : Type 0} (g : store.Ghosts S) where
   begun_read text params old new reads (inr h) = absurd (no_returning (understood old.schema text) (reads old.schema) h.0)
 
   -- a reading begins
-  pub handed_none : (old new : Held S) → HasBegun g ENTRIES.now [] old new → HandedOut g old new []
-  handed_none old new begun = begun_read ENTRIES.now [] old new entries_read begun
+  pub handed_none : (old new : Held S) → HasBegun g BATCHES.now [] old new → HandedOut g old new []
+  handed_none old new begun = begun_read BATCHES.now [] old new batches_read begun
 
   -- it goes on
-  pub hands_row : (old new : Held S) (row : Row) (entry : KeptEntry) → IsUnchanged (state g old) (state g new) → row ≡ row_of entry → Advances g old new (Some row)
-      → HandsOut g old new true entry
-  hands_row old new row entry same is advances start entries handed = (
-    subst (HasGiven g ENTRIES.now [] new) (ap (λ (r : Row). map row_of entries ++ r ∷ []) is ∙ sym (map-append row_of entries (entry ∷ [])))
-        (advances ENTRIES.now [] (map row_of entries) handed.0),
+  pub hands_row : (old new : Held S) (row is : Row) → IsUnchanged (state g old) (state g new) → row ≡ is → Advances g old new (Some row) → HandsOut g old new true is
+  hands_row old new row is same e advances start rows handed = (
+    subst (HasGiven g BATCHES.now [] new) (ap (λ (r : Row). rows ++ r ∷ []) e) (advances BATCHES.now [] rows handed.0),
     unchanged_then (state g start) (state g old) (state g new) handed.1 same,
   )
 
   -- it ends
-  pub hands_none : (old new : Held S) (entry : KeptEntry) → Advances g old new None → HandsOut g old new false entry
-  hands_none old new entry advances start entries handed =
-      shown_of ENTRIES.now [] (state g start) (state g old) (state g new) (map row_of entries) entries_read handed.1
-      (advances ENTRIES.now [] (map row_of entries) handed.0)
+  pub hands_none : (old new : Held S) (row : Row) → Advances g old new None → HandsOut g old new false row
+  hands_none old new row advances start rows handed =
+      shown_of BATCHES.now [] (state g start) (state g old) (state g new) rows batches_read handed.1 (advances BATCHES.now [] rows handed.0)
 
 -- what a file has, it had before, if nothing has changed
 module _ (start file : State) (same : IsUnchanged start file) where
-  pub entries_before : (entries : List KeptEntry) → HasEntries file entries → HasEntries start entries
-  entries_before entries has = (shown_of ENTRIES.now [] start file file (map row_of entries) entries_read same has).0
+  pub batches_before : (rows : List Row) → ShowsBatches file rows → ShowsBatches start rows
+  batches_before rows has = (shown_of BATCHES.now [] start file file rows batches_read same has).0
 
   pub programs_before : (programs : List KeptProgram) → HasPrograms file programs → HasPrograms start programs
   programs_before programs has = (shown_of PROGRAMS.now [] start file file (map row_of_program programs) programs_read same has).0
@@ -170,3 +171,39 @@ objects_read schema c is = query_plain schema OBJECTS.now c objects_query is
 
 pub count_read : OnlyReads COUNT_OBJECTS.now
 count_read schema c is = query_plain schema COUNT_OBJECTS.now c count_query is
+
+-- ---- the numbers rise
+
+pub rises_none : RisesTo [] 0
+rises_none = record { rising = tt; below = tt }
+
+less_numbers : (a b : ℕ) → a < b → value_cmp (number a) (number b) ≡ Less
+less_numbers a b low = value_cmp-Int (pos a) (pos b) ∙ grind (arith, nat_tests)
+
+abbrev IsBelow : ℕ → Row → Type 0
+IsBelow last row = (at : ℕ) × (rowid row ≡ number at) × (at ≤ last)
+
+-- a row is put after those that are below it
+rising_more : (rows : List Row) (x : Row) → IsTable rows → AllByRecursion (λ r. value_cmp (rowid r) (rowid x) ≡ Less) rows → IsTable (rows ++ x ∷ [])
+rising_more [] x up low = (tt, tt)
+rising_more (r ∷ rows) x up low = (
+  all_from _ (rows ++ x ∷ []) (λ y h. elim (has_either rows (x ∷ []) y h) [
+    | inl there ↦ all_has _ rows y up.0 there
+    | inr (inl same) ↦ rw same low.0
+    | inr (inr none) ↦ absurd none
+  ]),
+  rising_more rows x up.1 low.1,
+)
+
+pub rises_more : (rows : List Row) (last at stripe : ℕ) (bytes : List ℕ) → RisesTo rows last → last < at → RisesTo (rows ++ batch_row at stripe bytes ∷ []) at
+rises_more rows last at stripe bytes rises above =
+    let new = batch_row at stripe bytes in
+    let under = λ (r : Row) (h : Has rows r). all_has (IsBelow last) rows r rises.below h in
+    record {
+      rising = rising_more rows new rises.rising (all_from _ rows (λ r h. let b = under r h in subst (λ v. value_cmp v (number at) ≡ Less) (sym b.1) (less_numbers b.0 at (omega (arith, b.2, above)))));
+      below = all_from (IsBelow at) (rows ++ new ∷ []) (λ r h. elim (has_either rows (new ∷ []) r h) [
+        | inl there ↦ let b = under r there in (b.0, b.1, omega (arith, b.2, above))
+        | inr (inl same) ↦ (at, ap rowid same, omega arith)
+        | inr (inr none) ↦ absurd none
+      ]);
+    }

@@ -5,10 +5,9 @@ use Rattle.std.proofs.lemmas.Grind.{common_steps}
 use Rattle.sqlite.specs.Order.{Row, column}
 use Rattle.sqlite.specs.declared.types.Value.{Value}
 
--- a row of four columns is these
-pub four : (row : Row) (a b c d : Value) → length row ≡ 4 → column row 0 ≡ a → column row 1 ≡ b → column row 2 ≡ c → column row 3 ≡ d
-    → row ≡ a ∷ b ∷ c ∷ d ∷ []
-four row a b c d long first second third fourth = grind (arith, common_steps)
+-- a row of three columns is these
+pub three : (row : Row) (a b c : Value) → length row ≡ 3 → column row 0 ≡ a → column row 1 ≡ b → column row 2 ≡ c → row ≡ a ∷ b ∷ c ∷ []
+three row a b c long first second third = grind (arith, common_steps)
 
 -- .. one of five
 pub five : (row : Row) (a b c d e : Value) → length row ≡ 5 → column row 0 ≡ a → column row 1 ≡ b → column row 2 ≡ c → column row 3 ≡ d → column row 4 ≡ e

@@ -1,20 +1,20 @@
--- Stored rows of entries: their columns, what a comparison says of them, and which rows are left when some are taken out.
-use Rattle.std.proofs.Common.{◌≡◌, ◌∙◌, ◌⊎◌, ℕ, ℤ, Bool, true, false, List, [], ◌∷◌, map, drop, filter, Some, None, IsTrue, refl, sym, ap, subst, subst₂, inl, inr, true≢false, Ordering, Less, Equal, Greater, is_eq}
+-- Stored rows of batches: their columns, what a comparison says of them, which rows are left when some are taken out, and where one is put.
+use Rattle.std.proofs.Common.{◌≡◌, ◌∙◌, ◌⊎◌, ℤ, Bool, true, false, cond, List, [], ◌∷◌, ◌++◌, map, drop, filter, Some, IsTrue, refl, sym, ap, ap₂, subst, inl, inr, true≢false, Less, is_eq}
 use Rattle.std.specs.List.{AllByRecursion}
-use Rattle.std.specs.Ordering.{is_ne}
+use Rattle.std.specs.Ordering.{ordering_reverse}
 use Rattle.std.proofs.lemmas.Bool.{and_parts, cases_Bool, not-true}
 use Rattle.std.proofs.lemmas.Cmp.{tied_itself}
-use Rattle.std.proofs.lemmas.Map.Lookups.{exact_signed, exact_bytes}
 use Rattle.sqlite_value.specs.declared.value.Value.{Value}
 use Rattle.sqlite_value.specs.declared.value.Value.TheVariants.{Null, Int, Real, Text, Blob}
 use Rattle.sqlite_value.specs.declared.keys.Collation.TheVariants.{Binary}
 use Rattle.sqlite_value.specs.Order.{Row, column, value_cmp}
-use Rattle.sqlite_value.proofs.OrderLemmas.{value_cmp_total, value_cmp-Int, value_cmp-Blob}
+use Rattle.sqlite_value.proofs.OrderLemmas.{value_cmp_total, value_cmp-Null}
 use Rattle.sqlite_trees.specs.Tree.{rowid, has_rowid, IsTable, without_rowid, put_row}
 use Rattle.sqlite_trees.specs.View.{is_int}
 use Rattle.sqlite_trees.proofs.TreeLemmas.{IsTable-put_row}
-use Rattle.sqlite_sql.specs.Ops.{binary, is_true}
-use Rattle.sqlite_schema.specs.Rules.{equal, differ, are_typed}
+use Rattle.sqlite_sql.specs.Ops.{binary, is_true, from_truth}
+use Rattle.sqlite_schema.specs.Rules.{equal, are_typed, is_of}
+use Rattle.sqlite_schema.specs.declared.schema.Kind.TheVariants.{Integer}
 use Rattle.sqlite_rules.specs.Lists.{Has}
 use Rattle.sqlite_rules.specs.Edit.{id_in, without_all, row_at}
 use Rattle.sqlite_rules.specs.Calls.{ids_of}
@@ -22,87 +22,41 @@ use Rattle.sqlite_rules.proofs.ListLemmas.{all_has, all_from, has_filtered}
 use Rattle.sqlite_rules.proofs.TableLemmas.{int_is, without_all_has, put_has}
 use Rattle.sqlite_rules.proofs.PlaceLemmas.{row_at_is, left_or_taken}
 use Rattle.sqlite_rules.proofs.ProbeLemmas.{has_mapped}
-use Rattle.kept_file.specs.Tables.{entries_table}
+use Rattle.kept_file.specs.Content.{batch_in}
+use Rattle.kept_file.specs.Tables.{batches_table}
 
 -- ---- columns
 
 abbrev pub IsWholeNumber : Value → Type 0
 IsWholeNumber v = (v ≡ Null) ⊎ ((n : ℤ) × (v ≡ Int n))
 
-abbrev pub IsBytes : Value → Type 0
-IsBytes v = (v ≡ Null) ⊎ ((b : List ℕ) × (v ≡ Blob b))
-
 abbrev pub IsTypedRow : Row → Type 0
-IsTypedRow row = are_typed None 0 entries_table.columns (drop 1 row) ≡ true
+IsTypedRow row = are_typed batches_table.key 0 batches_table.columns (drop 1 row) ≡ true
 
-pub first_typed : (row : Row) → IsTypedRow row → IsWholeNumber (column row 1)
-first_typed [] h = inl refl
-first_typed (i ∷ []) h = inl refl
-first_typed (i ∷ Null ∷ more) h = inl refl
-first_typed (i ∷ Int n ∷ more) h = inr (n, refl)
-first_typed (i ∷ Real x ∷ more) h = absurd cc
-first_typed (i ∷ Text t ∷ more) h = absurd cc
-first_typed (i ∷ Blob b ∷ more) h = absurd cc
+number_typed : (v : Value) → is_of Integer v ≡ true → IsWholeNumber v
+number_typed Null h = inl refl
+number_typed (Int n) h = inr (n, refl)
+number_typed (Real x) h = absurd cc
+number_typed (Text t) h = absurd cc
+number_typed (Blob b) h = absurd cc
 
-pub second_typed : (row : Row) → IsTypedRow row → IsBytes (column row 2)
-second_typed [] h = inl refl
-second_typed (i ∷ []) h = inl refl
-second_typed (i ∷ s ∷ []) h = inl refl
-second_typed (i ∷ s ∷ k ∷ more) h = of_value k (and_parts _ _ (and_parts _ _ h).1).0
-  where
-    of_value : (v : Value) → Rattle.sqlite_schema.specs.Rules.is_of Rattle.sqlite_schema.specs.declared.schema.Kind.TheVariants.Blob v ≡ true → IsBytes v
-    of_value Null h = inl refl
-    of_value (Int n) h = absurd cc
-    of_value (Real x) h = absurd cc
-    of_value (Text t) h = absurd cc
-    of_value (Blob b) h = inr (b, refl)
+pub stripe_typed : (row : Row) → IsTypedRow row → IsWholeNumber (column row 2)
+stripe_typed [] h = inl refl
+stripe_typed (i ∷ []) h = inl refl
+stripe_typed (i ∷ n ∷ []) h = inl refl
+stripe_typed (i ∷ n ∷ stripe ∷ more) h = number_typed stripe (and_parts _ _ (and_parts _ _ h).1).0
 
 -- ---- comparisons
 
-equal_of : (o : Ordering) → is_eq o ≡ true → o ≡ Equal
-equal_of Less h = absurd cc
-equal_of Equal h = refl
-equal_of Greater h = absurd cc
-
-true_of : (b : Bool) → is_true (Rattle.sqlite_sql.specs.Ops.from_truth (Some b)) ≡ b
+true_of : (b : Bool) → is_true (from_truth (Some b)) ≡ b
 true_of true = refl
 true_of false = refl
 
-pub equals_number : (v : Value) (n : ℤ) → IsWholeNumber v → equal Binary v (Int n) ≡ true → v ≡ Int n
+-- a column that has a number, or nothing, is equal to a number if the order says so
+pub equal_is : (v : Value) (n : ℤ) → IsWholeNumber v → equal Binary v (Int n) ≡ is_eq (value_cmp v (Int n))
 unfolding binary
-equals_number v n (inl none) h = absurd (let e : false ≡ true = subst (λ w. equal Binary w (Int n) ≡ true) none h in cc)
-equals_number v n (inr is) h =
-    let e : is_eq (value_cmp (Int is.0) (Int n)) ≡ true = sym (true_of _) ∙ subst (λ w. equal Binary w (Int n) ≡ true) is.1 h in
-    is.1 ∙ ap Int (exact_signed is.0 n (equal_of _ (ap is_eq (sym (value_cmp-Int is.0 n)) ∙ e)))
-
-pub number_equals : (v : Value) (n : ℤ) → v ≡ Int n → equal Binary v (Int n) ≡ true
-unfolding binary
-number_equals v n is = subst (λ w. equal Binary w (Int n) ≡ true) (sym is) (true_of _ ∙ ap is_eq (tied_itself value_cmp_total (Int n)))
-
-pub equals_bytes : (v : Value) (b : List ℕ) → IsBytes v → equal Binary v (Blob b) ≡ true → v ≡ Blob b
-unfolding binary
-equals_bytes v b (inl none) h = absurd (let e : false ≡ true = subst (λ w. equal Binary w (Blob b) ≡ true) none h in cc)
-equals_bytes v b (inr is) h =
-    let e : is_eq (value_cmp (Blob is.0) (Blob b)) ≡ true = sym (true_of _) ∙ subst (λ w. equal Binary w (Blob b) ≡ true) is.1 h in
-    is.1 ∙ ap Blob (exact_bytes is.0 b (equal_of _ (ap is_eq (sym (value_cmp-Blob is.0 b)) ∙ e)))
-
-pub bytes_equal : (v : Value) (b : List ℕ) → v ≡ Blob b → equal Binary v (Blob b) ≡ true
-unfolding binary
-bytes_equal v b is = subst (λ w. equal Binary w (Blob b) ≡ true) (sym is) (true_of _ ∙ ap is_eq (tied_itself value_cmp_total (Blob b)))
-
-not_ne : (o : Ordering) → is_ne o ≡ false → o ≡ Equal
-not_ne Less h = absurd cc
-not_ne Equal h = refl
-not_ne Greater h = absurd cc
-
--- two numbers that do not differ are one
-pub differ_not : (a b : Value) → IsTrue (is_int a) → IsTrue (is_int b) → differ a b ≡ false → a ≡ b
-unfolding binary
-differ_not a b int also h =
-    let m = int_is a int in
-    let n = int_is b also in
-    let e : is_ne (value_cmp (Int (id_in a)) (Int (id_in b))) ≡ false = sym (true_of _) ∙ subst₂ (λ x y. differ x y ≡ false) m n h in
-    m ∙ ap Int (exact_signed (id_in a) (id_in b) (not_ne _ (ap is_ne (sym (value_cmp-Int (id_in a) (id_in b))) ∙ e))) ∙ sym n
+equal_is v n (inl none) = subst (λ w. equal Binary w (Int n) ≡ is_eq (value_cmp w (Int n))) (sym none) (sym (ap is_eq (value_cmp-Null (Int n))))
+equal_is v n (inr is) = subst (λ w. equal Binary w (Int n) ≡ is_eq (value_cmp w (Int n))) (sym is.1) (true_of _)
 
 -- ---- rows that are taken out
 
@@ -158,7 +112,7 @@ module _ (passes : Row → Bool) (rows found : List Row) (ordered : IsTable rows
 
 -- ---- order and numbers stay
 
-ordered_filter : (p : Row → Bool) (rows : List Row) → IsTable rows → IsTable (filter p rows)
+pub ordered_filter : (p : Row → Bool) (rows : List Row) → IsTable rows → IsTable (filter p rows)
 ordered_filter p [] up = tt
 ordered_filter p (r ∷ rows) up = elim (cases_Bool (p r)) [
   | inl e ↦ rw e (all_from _ (filter p rows) (λ y h. all_has _ rows y up.0 (has_filtered p rows y h).0), ordered_filter p rows up.1)
@@ -177,3 +131,44 @@ ordered_put new rows up = IsTable-put_row new rows up
 
 pub numbered_put : (new : Row) (rows : List Row) → IsTrue (is_int (rowid new)) → AreNumbered rows → AreNumbered (put_row new rows)
 numbered_put new rows int all = all_from _ _ (λ x h. elim (put_has new rows x h) [ inl same ↦ subst (λ r. IsTrue (is_int (rowid r))) (sym same) int | inr was ↦ all_has _ rows x all was ])
+
+-- ---- where a row is put
+
+-- rows that rise are put after each other
+pub put_last : (xs : List Row) (x : Row) → AllByRecursion (λ r. value_cmp (rowid r) (rowid x) ≡ Less) xs → put_row x xs ≡ xs ++ x ∷ []
+put_last [] x low = refl
+put_last (r ∷ xs) x low = rw (low.0, put_last xs x low.1) refl
+
+-- ---- two tables with the same rows are one
+
+never_both : (a b : Row) → value_cmp (rowid a) (rowid b) ≡ Less → value_cmp (rowid b) (rowid a) ≡ Less → ⊥
+never_both a b p q = let e = value_cmp_total.antisymm (rowid a) (rowid b) ∙ ap ordering_reverse q in cc
+
+pub same_rows : (xs ys : List Row) → IsTable xs → IsTable ys → ((r : Row) → Has xs r → Has ys r) → ((r : Row) → Has ys r → Has xs r) → xs ≡ ys
+same_rows [] [] p q a b = refl
+same_rows [] (y ∷ ys) p q a b = absurd (b y (inl refl))
+same_rows (x ∷ xs) [] p q a b = absurd (a x (inl refl))
+same_rows (x ∷ xs) (y ∷ ys) p q a b =
+    let first : x ≡ y = elim (a x (inl refl)) [
+      | inl e ↦ e
+      | inr later ↦ elim (b y (inl refl)) [ inl e ↦ sym e | inr also ↦ absurd (never_both x y (all_has _ xs y p.0 also) (all_has _ ys x q.0 later)) ]
+    ] in
+    let past = λ (z : Row) (zs : List Row) (up : AllByRecursion (λ r. value_cmp (rowid z) (rowid r) ≡ Less) zs) (r : Row) (h : Has zs r) (e : r ≡ z).
+    let lower = rw e at (all_has _ zs r up h) in never_both z z lower lower in
+    ap₂ ◌∷◌ first (same_rows xs ys p.1 q.1
+    (λ r h. elim (a r (inr h)) [ inl e ↦ absurd (past x xs p.0 r h (e ∙ sym first)) | inr k ↦ k ])
+    (λ r h. elim (b r (inr h)) [ inl e ↦ absurd (past y ys q.0 r h (e ∙ first)) | inr k ↦ k ]))
+
+-- ---- the batches in them
+
+-- they keep their numbers, so they rise
+pub batches_rise : (rows : List Row) → IsTable rows → IsTable (map batch_in rows)
+batches_rise [] up = tt
+batches_rise (r ∷ more) up = (all_from _ (map batch_in more) (λ row h. let b = has_mapped batch_in more row h in rw b.2 (all_has _ more b.0 up.0 b.1)), batches_rise more up.1)
+
+pub batches_left : (p : Row → Bool) (rows : List Row) → map batch_in (filter (λ row. p (batch_in row)) rows) ≡ filter p (map batch_in rows)
+batches_left p [] = refl
+batches_left p (r ∷ rows) =
+    elim (p (batch_in r)) as (λ b. map batch_in (cond b (r ∷ filter (λ row. p (batch_in row)) rows) (filter (λ row. p (batch_in row)) rows))
+    ≡ cond b (batch_in r ∷ filter p (map batch_in rows)) (filter p (map batch_in rows)))
+    [ true ↦ ap (λ l. batch_in r ∷ l) (batches_left p rows) | false ↦ batches_left p rows ]

@@ -1,5 +1,5 @@
 -- A database that lists just the objects of a new file has the tables of one.
-use Rattle.std.proofs.Common.{◌≡◌, ◌∙◌, ◌⊎◌, ℕ, zero, suc, slice_get, ◌+◌, ◌<◌, pos, Bool, true, false, not, List, [], ◌∷◌, map, filter, codes, Option, None, Some, Result, Ok, Err, OnOk, MatchBool, IsSome, IfSome, IsTrue, refl, sym, ap, ap₂, subst, subst₂, inl, inr, Less, arith, IsUtf8}
+use Rattle.std.proofs.Common.{◌≡◌, ◌∙◌, ◌⊎◌, ℕ, zero, suc, slice_get, ◌+◌, ◌<◌, pos, Bool, true, false, not, List, [], ◌∷◌, map, filter, codes, Option, None, Some, Result, Ok, Err, OnOk, MatchBool, IsSome, IfSome, IsTrue, refl, sym, ap, ap₂, subst, subst₂, inl, inr, arith, IsUtf8}
 use Rattle.std.specs.List.{AllByRecursion, AllZip}
 use Rattle.std.proofs.lemmas.Bool.{and_parts, and_from, and_left, or_parts, cases_Bool}
 use Rattle.std.specs.Str.{bytes_eq}
@@ -7,7 +7,7 @@ use Rattle.std.proofs.lemmas.Slice.Eq.{bytes_eq-Decides}
 use Rattle.std.specs.Str.{chars, is_utf8}
 use Rattle.std.proofs.lemmas.Str.{IsUtf8-from_is_utf8}
 use Rattle.std.specs.Fmt.{digits}
-use Rattle.std.specs.Ordering.{is_eq, ordering_reverse}
+use Rattle.std.specs.Ordering.{is_eq}
 use Rattle.std.proofs.Math.Logic.{∥∥₁_elim}
 use Rattle.sqlite.specs.Effect.{Database, IsDatabase}
 use Rattle.sqlite.specs.Files.{AreFoundIn}
@@ -25,7 +25,6 @@ use Rattle.sqlite.specs.Schema.{Schema}
 use Rattle.sqlite.specs.Compile.{table_defined_by}
 use Rattle.sqlite_value.specs.declared.value.Value.TheVariants.{Int, Null, Text}
 use Rattle.sqlite_value.specs.Order.{value_cmp}
-use Rattle.sqlite_value.proofs.OrderLemmas.{value_cmp_total}
 use Rattle.sqlite_trees.specs.Objects.{catalog_tree}
 use Rattle.sqlite_trees.specs.Tree.{Trees, IsTable, rowid}
 use Rattle.sqlite_schema.specs.Names.{same_name}
@@ -38,34 +37,16 @@ use Rattle.sqlite_rules.specs.Lists.{Has}
 use Rattle.sqlite_rules.proofs.ListLemmas.{all_has, all_from, has_filtered, has_kept}
 use Rattle.sqlite_rules.proofs.ProbeLemmas.{has_mapped, mapped_has}
 use Rattle.kept_file.specs.Content.{HasTables, IsJustOpened, ListsKept}
-use Rattle.kept_file.specs.Tables.{entries_tree, table_row, key_name, key_row, kept_objects, kept_schema, settings_table, programs_table, scripts_table, entries_table}
+use Rattle.kept_file.specs.Tables.{batches_tree, table_row, key_name, key_row, kept_objects, kept_schema, settings_table, programs_table, scripts_table, batches_table}
 use Rattle.kept_file.specs.declared.fault.KeepFault.{KeepFault}
 use Rattle.kept_file.specs.declared.schema.TheConstants as schema
 use Rattle.kept_file.proofs.ListedLemmas.{ShowsObjects, front, shows_objects}
 use Rattle.kept_file.proofs.ReadLemmas.{objects_read, shown_of}
+use Rattle.kept_file.proofs.StoredLemmas.{same_rows}
 use Rattle.kept_file.specs.declared.tables.TheConstants.{OBJECTS}
-use Rattle.kept_file.proofs.TextLemmas.{settings_made, programs_made, scripts_made, entries_made}
+use Rattle.kept_file.proofs.TextLemmas.{settings_made, programs_made, scripts_made, batches_made}
 
 -- ---- the list has these rows in this order
-
-never_both : (a b : Row) → value_cmp (rowid a) (rowid b) ≡ Less → value_cmp (rowid b) (rowid a) ≡ Less → ⊥
-never_both a b p q = let e = value_cmp_total.antisymm (rowid a) (rowid b) ∙ ap ordering_reverse q in cc
-
--- two tables with the same rows are one
-same_rows : (xs ys : List Row) → IsTable xs → IsTable ys → ((r : Row) → Has xs r → Has ys r) → ((r : Row) → Has ys r → Has xs r) → xs ≡ ys
-same_rows [] [] p q a b = refl
-same_rows [] (y ∷ ys) p q a b = absurd (b y (inl refl))
-same_rows (x ∷ xs) [] p q a b = absurd (a x (inl refl))
-same_rows (x ∷ xs) (y ∷ ys) p q a b =
-    let first : x ≡ y = elim (a x (inl refl)) [
-      | inl e ↦ e
-      | inr later ↦ elim (b y (inl refl)) [ inl e ↦ sym e | inr also ↦ absurd (never_both x y (all_has _ xs y p.0 also) (all_has _ ys x q.0 later)) ]
-    ] in
-    let past = λ (z : Row) (zs : List Row) (up : AllByRecursion (λ r. value_cmp (rowid z) (rowid r) ≡ Less) zs) (r : Row) (h : Has zs r) (e : r ≡ z).
-    let lower = rw e at (all_has _ zs r up h) in never_both z z lower lower in
-    ap₂ ◌∷◌ first (same_rows xs ys p.1 q.1
-    (λ r h. elim (a r (inr h)) [ inl e ↦ absurd (past x xs p.0 r h (e ∙ sym first)) | inr k ↦ k ])
-    (λ r h. elim (b r (inr h)) [ inl e ↦ absurd (past y ys q.0 r h (e ∙ first)) | inr k ↦ k ]))
 
 fronts_rise : (objects : List Row) → IsTable objects → IsTable (map front objects)
 fronts_rise [] up = tt
@@ -73,7 +54,7 @@ fronts_rise (o ∷ more) up = (all_from _ (map front more) (λ row h. let r = ha
 
 kept_rise : IsTable kept_objects
 unfolding value_cmp lib.Ieee.is_nan lib.Ieee.lt
-kept_rise = ((refl, (refl, (refl, (refl, (refl, tt))))), ((refl, (refl, (refl, (refl, tt)))), ((refl, (refl, (refl, tt))), ((refl, (refl, tt)), ((refl, tt), (tt, tt))))))
+kept_rise = ((refl, (refl, (refl, (refl, tt)))), ((refl, (refl, (refl, tt))), ((refl, (refl, tt)), ((refl, tt), (tt, tt)))))
 
 pub fronts_are : (objects : List Row) → IsTable objects → ShowsObjects objects kept_objects → map front objects ≡ kept_objects
 fronts_are objects rising all = same_rows (map front objects) kept_objects (fronts_rise objects rising) kept_rise
@@ -105,9 +86,9 @@ key_of index table key one is = go is.0 is.1 is.2 is.3
 abbrev pub tables : List Table
 tables = kept_schema.tables
 
--- the two whose keys have an index
+-- the one whose key has an index
 abbrev pub keyed : List Table
-keyed = settings_table ∷ entries_table ∷ []
+keyed = settings_table ∷ []
 
 pub record ShowsTable (o : Row) (t : Table) : Type 0 where
   pub id : column o 0 ≡ Int (pos (t.tree + 1))
@@ -153,9 +134,8 @@ kept o (inl e) = inl (settings_table, inl refl, shows_table o settings_table _ s
 kept o (inr (inl e)) = inr (settings_table, inl refl, shows_key o settings_table e)
 kept o (inr (inr (inl e))) = inl (programs_table, inr (inl refl), shows_table o programs_table _ programs_made e)
 kept o (inr (inr (inr (inl e)))) = inl (scripts_table, inr (inr (inl refl)), shows_table o scripts_table _ scripts_made e)
-kept o (inr (inr (inr (inr (inl e))))) = inl (entries_table, inr (inr (inr (inl refl))), shows_table o entries_table _ entries_made e)
-kept o (inr (inr (inr (inr (inr (inl e)))))) = inr (entries_table, inr (inl refl), shows_key o entries_table e)
-kept o (inr (inr (inr (inr (inr (inr none)))))) = absurd none
+kept o (inr (inr (inr (inr (inl e))))) = inl (batches_table, inr (inr (inr (inl refl))), shows_table o batches_table _ batches_made e)
+kept o (inr (inr (inr (inr (inr none))))) = absurd none
 
 -- ---- no object is one that the database keeps aside
 
@@ -169,7 +149,7 @@ unfolding is_utf8 chars lib.Utf8.encode
 plain_table t (inl e) = rw e (record { low = omega arith; formed = refl; utf8 = IsUtf8-from_is_utf8 (codes "settings") refl })
 plain_table t (inr (inl e)) = rw e (record { low = omega arith; formed = refl; utf8 = IsUtf8-from_is_utf8 (codes "programs") refl })
 plain_table t (inr (inr (inl e))) = rw e (record { low = omega arith; formed = refl; utf8 = IsUtf8-from_is_utf8 (codes "scripts") refl })
-plain_table t (inr (inr (inr (inl e)))) = rw e (record { low = omega arith; formed = refl; utf8 = IsUtf8-from_is_utf8 (codes "entries") refl })
+plain_table t (inr (inr (inr (inl e)))) = rw e (record { low = omega arith; formed = refl; utf8 = IsUtf8-from_is_utf8 (codes "batches") refl })
 plain_table t (inr (inr (inr (inr none)))) = absurd none
 
 pub readable : (o : Row) (t : Table) → Has tables t → ShowsTable o t → IsReadable o
@@ -196,8 +176,7 @@ index_word = differ (codes "index") (codes "table") refl
 no_key : (t : Table) (table : List ℕ) → Has keyed t → same_name (key_name table) t.name ≡ true → ⊥
 unfolding same_name
 no_key t table (inl e) same = let s = rw e at same in cc
-no_key t table (inr (inl e)) same = let s = rw e at same in cc
-no_key t table (inr (inr none)) same = none
+no_key t table (inr none) same = none
 
 -- the kind of a row is one word
 other_kind : (o : Row) (a b : List ℕ) → column o 1 ≡ Text a → column o 1 ≡ Text b → a ≡ b
@@ -296,15 +275,11 @@ module _ (objects : List Row) (schema : Schema) (are : AreListed objects schema)
 -- a table by its name
 named : (a b : Table) → Has tables a → Has keyed b → a.name ≡ b.name → a ≡ b
 named a b (inl e) (inl f) same = e ∙ sym f
-named a b (inl e) (inr (inl f)) same = absurd (differ (codes "settings") (codes "entries") refl (rw (e, f) at same))
 named a b (inr (inl e)) (inl f) same = absurd (differ (codes "programs") (codes "settings") refl (rw (e, f) at same))
-named a b (inr (inl e)) (inr (inl f)) same = absurd (differ (codes "programs") (codes "entries") refl (rw (e, f) at same))
 named a b (inr (inr (inl e))) (inl f) same = absurd (differ (codes "scripts") (codes "settings") refl (rw (e, f) at same))
-named a b (inr (inr (inl e))) (inr (inl f)) same = absurd (differ (codes "scripts") (codes "entries") refl (rw (e, f) at same))
-named a b (inr (inr (inr (inl e)))) (inl f) same = absurd (differ (codes "entries") (codes "settings") refl (rw (e, f) at same))
-named a b (inr (inr (inr (inl e)))) (inr (inl f)) same = e ∙ sym f
+named a b (inr (inr (inr (inl e)))) (inl f) same = absurd (differ (codes "batches") (codes "settings") refl (rw (e, f) at same))
 named a b (inr (inr (inr (inr none)))) f same = absurd none
-named a b e (inr (inr none)) same = absurd none
+named a b e (inr none) same = absurd none
 
 -- an index by its row and its table
 pub indexed_so : (o : Row) (index : Index) (all : List Table) (t : Table) (key : List ℕ) → all ≡ tables → Has keyed t → t.uniques ≡ key ∷ [] → IsIndexRow all o index → ShowsKey o t
@@ -349,48 +324,44 @@ nobody (x ∷ xs) none = absurd (none x (inl refl))
 more : {X : Type 0} (xs : List X) (x y : X) (rest others : List X) → xs ≡ x ∷ rest → x ≡ y → rest ≡ others → xs ≡ y ∷ others
 more xs x y rest others is first later = is ∙ ap₂ ◌∷◌ first later
 
-pub record Are (o0 o1 o2 o3 o4 o5 : Row) : Type 0 where
+pub record Are (o0 o1 o2 o3 o4 : Row) : Type 0 where
   pub settings : ShowsTable o0 settings_table
   pub settings_key : ShowsKey o1 settings_table
   pub programs : ShowsTable o2 programs_table
   pub scripts : ShowsTable o3 scripts_table
-  pub entries : ShowsTable o4 entries_table
-  pub entries_key : ShowsKey o5 entries_table
+  pub batches : ShowsTable o4 batches_table
 
-module _ (o0 o1 o2 o3 o4 o5 : Row) (shows : Are o0 o1 o2 o3 o4 o5) (schema : Schema) (are : AreListed (o0 ∷ o1 ∷ o2 ∷ o3 ∷ o4 ∷ o5 ∷ []) schema) where
-  abbrev six : List Row
-  six = o0 ∷ o1 ∷ o2 ∷ o3 ∷ o4 ∷ o5 ∷ []
+module _ (o0 o1 o2 o3 o4 : Row) (shows : Are o0 o1 o2 o3 o4) (schema : Schema) (are : AreListed (o0 ∷ o1 ∷ o2 ∷ o3 ∷ o4 ∷ []) schema) where
+  abbrev five : List Row
+  five = o0 ∷ o1 ∷ o2 ∷ o3 ∷ o4 ∷ []
 
-  each : (o : Row) → Has six o → IsKept o
+  each : (o : Row) → Has five o → IsKept o
   each o (inl e) = rw e (inl (settings_table, inl refl, shows.settings))
   each o (inr (inl e)) = rw e (inr (settings_table, inl refl, shows.settings_key))
   each o (inr (inr (inl e))) = rw e (inl (programs_table, inr (inl refl), shows.programs))
   each o (inr (inr (inr (inl e)))) = rw e (inl (scripts_table, inr (inr (inl refl)), shows.scripts))
-  each o (inr (inr (inr (inr (inl e))))) = rw e (inl (entries_table, inr (inr (inr (inl refl))), shows.entries))
-  each o (inr (inr (inr (inr (inr (inl e)))))) = rw e (inr (entries_table, inr (inl refl), shows.entries_key))
-  each o (inr (inr (inr (inr (inr (inr none)))))) = absurd none
+  each o (inr (inr (inr (inr (inl e))))) = rw e (inl (batches_table, inr (inr (inr (inl refl))), shows.batches))
+  each o (inr (inr (inr (inr (inr none))))) = absurd none
 
-  plain : (o : Row) → Has six o → is_view_row o ≡ false
-  plain = plain_row six schema are each
+  plain : (o : Row) → Has five o → is_view_row o ≡ false
+  plain = plain_row five schema are each
 
-  table_rows : filter is_table_row six ≡ o0 ∷ o2 ∷ o3 ∷ o4 ∷ []
+  table_rows : filter is_table_row five ≡ o0 ∷ o2 ∷ o3 ∷ o4 ∷ []
   table_rows = rw (
     table_row_is o0 _ shows.settings (plain o0 (inl refl)),
     no_table_row o1 _ shows.settings_key,
     table_row_is o2 _ shows.programs (plain o2 (inr (inr (inl refl)))),
     table_row_is o3 _ shows.scripts (plain o3 (inr (inr (inr (inl refl))))),
-    table_row_is o4 _ shows.entries (plain o4 (inr (inr (inr (inr (inl refl)))))),
-    no_table_row o5 _ shows.entries_key,
+    table_row_is o4 _ shows.batches (plain o4 (inr (inr (inr (inr (inl refl)))))),
   ) refl
 
-  index_rows : filter is_index_row six ≡ o1 ∷ o5 ∷ []
+  index_rows : filter is_index_row five ≡ o1 ∷ []
   index_rows = rw (
     no_index_row o0 _ shows.settings (plain o0 (inl refl)),
     index_row_is o1 _ shows.settings_key (plain o1 (inr (inl refl))),
     no_index_row o2 _ shows.programs (plain o2 (inr (inr (inl refl)))),
     no_index_row o3 _ shows.scripts (plain o3 (inr (inr (inr (inl refl))))),
-    no_index_row o4 _ shows.entries (plain o4 (inr (inr (inr (inr (inl refl)))))),
-    index_row_is o5 _ shows.entries_key (plain o5 (inr (inr (inr (inr (inr (inl refl))))))),
+    no_index_row o4 _ shows.batches (plain o4 (inr (inr (inr (inr (inl refl)))))),
   ) refl
 
   tables_are : schema.tables ≡ tables
@@ -399,22 +370,21 @@ module _ (o0 o1 o2 o3 o4 o5 : Row) (shows : Are o0 o1 o2 o3 o4 o5) (schema : Sch
       let b = zip_cons IsTableRow o2 (o3 ∷ o4 ∷ []) a.1 a.4 in
       let c = zip_cons IsTableRow o3 (o4 ∷ []) b.1 b.4 in
       let d = zip_cons IsTableRow o4 [] c.1 c.4 in
-      more schema.tables a.0 settings_table a.1 (programs_table ∷ scripts_table ∷ entries_table ∷ []) a.2 (made_so o0 a.0 settings_table _ a.3 shows.settings.id shows.settings.made_by shows.settings.made)
-      (more a.1 b.0 programs_table b.1 (scripts_table ∷ entries_table ∷ []) b.2 (made_so o2 b.0 programs_table _ b.3 shows.programs.id shows.programs.made_by shows.programs.made)
-      (more b.1 c.0 scripts_table c.1 (entries_table ∷ []) c.2 (made_so o3 c.0 scripts_table _ c.3 shows.scripts.id shows.scripts.made_by shows.scripts.made)
-      (more c.1 d.0 entries_table d.1 [] d.2 (made_so o4 d.0 entries_table _ d.3 shows.entries.id shows.entries.made_by shows.entries.made) (zip_nil IsTableRow d.1 d.4))))
+      more schema.tables a.0 settings_table a.1 (programs_table ∷ scripts_table ∷ batches_table ∷ []) a.2 (made_so o0 a.0 settings_table _ a.3 shows.settings.id shows.settings.made_by shows.settings.made)
+      (more a.1 b.0 programs_table b.1 (scripts_table ∷ batches_table ∷ []) b.2 (made_so o2 b.0 programs_table _ b.3 shows.programs.id shows.programs.made_by shows.programs.made)
+      (more b.1 c.0 scripts_table c.1 (batches_table ∷ []) c.2 (made_so o3 c.0 scripts_table _ c.3 shows.scripts.id shows.scripts.made_by shows.scripts.made)
+      (more c.1 d.0 batches_table d.1 [] d.2 (made_so o4 d.0 batches_table _ d.3 shows.batches.id shows.batches.made_by shows.batches.made) (zip_nil IsTableRow d.1 d.4))))
 
   indexes_are : schema.indexes ≡ kept_schema.indexes
   unfolding digits
   indexes_are =
       let zipped = subst (λ rows. AllZip (IsIndexRow schema.tables) rows schema.indexes) index_rows are.indexes in
-      let a = zip_cons (IsIndexRow schema.tables) o1 (o5 ∷ []) schema.indexes zipped in
-      let b = zip_cons (IsIndexRow schema.tables) o5 [] a.1 a.4 in
-      more schema.indexes a.0 (automatic settings_table 0 (1 ∷ []) 1) a.1 (automatic entries_table 0 (1 ∷ 2 ∷ []) 5 ∷ []) a.2 (indexed_so o1 a.0 schema.tables settings_table (1 ∷ []) tables_are (inl refl) refl a.3 shows.settings_key)
-      (more a.1 b.0 (automatic entries_table 0 (1 ∷ 2 ∷ []) 5) b.1 [] b.2 (indexed_so o5 b.0 schema.tables entries_table (1 ∷ 2 ∷ []) tables_are (inr (inl refl)) refl b.3 shows.entries_key) (zip_nil (IsIndexRow schema.tables) b.1 b.4))
+      let a = zip_cons (IsIndexRow schema.tables) o1 [] schema.indexes zipped in
+      more schema.indexes a.0 (automatic settings_table 0 (1 ∷ []) 1) a.1 [] a.2 (indexed_so o1 a.0 schema.tables settings_table (1 ∷ []) tables_are (inl refl) refl a.3 shows.settings_key)
+      (zip_nil (IsIndexRow schema.tables) a.1 a.4)
 
   views_are : schema.views ≡ []
-  views_are = nobody schema.views (no_view six schema are each)
+  views_are = nobody schema.views (no_view five schema are each)
 
   schema_is : schema ≡ kept_schema
   schema_is = λ i. record { tables = tables_are i; indexes = indexes_are i; views = views_are i }
@@ -441,24 +411,21 @@ schema_so objects schema are fronts =
     let c = uncons b.1 _ _ b.4 in
     let d = uncons c.1 _ _ c.4 in
     let e = uncons d.1 _ _ d.4 in
-    let f = uncons e.1 _ _ e.4 in
-    let end : f.1 ≡ [] = map_nil f.1 f.4 in
-    let whole : objects ≡ a.0 ∷ b.0 ∷ c.0 ∷ d.0 ∷ e.0 ∷ f.0 ∷ [] =
-    more objects a.0 a.0 a.1 (b.0 ∷ c.0 ∷ d.0 ∷ e.0 ∷ f.0 ∷ []) a.2 refl
-    (more a.1 b.0 b.0 b.1 (c.0 ∷ d.0 ∷ e.0 ∷ f.0 ∷ []) b.2 refl
-    (more b.1 c.0 c.0 c.1 (d.0 ∷ e.0 ∷ f.0 ∷ []) c.2 refl
-    (more c.1 d.0 d.0 d.1 (e.0 ∷ f.0 ∷ []) d.2 refl
-    (more d.1 e.0 e.0 e.1 (f.0 ∷ []) e.2 refl
-    (more e.1 f.0 f.0 f.1 [] f.2 refl end))))) in
-    let shows : Are a.0 b.0 c.0 d.0 e.0 f.0 = record {
+    let end : e.1 ≡ [] = map_nil e.1 e.4 in
+    let whole : objects ≡ a.0 ∷ b.0 ∷ c.0 ∷ d.0 ∷ e.0 ∷ [] =
+    more objects a.0 a.0 a.1 (b.0 ∷ c.0 ∷ d.0 ∷ e.0 ∷ []) a.2 refl
+    (more a.1 b.0 b.0 b.1 (c.0 ∷ d.0 ∷ e.0 ∷ []) b.2 refl
+    (more b.1 c.0 c.0 c.1 (d.0 ∷ e.0 ∷ []) c.2 refl
+    (more c.1 d.0 d.0 d.1 (e.0 ∷ []) d.2 refl
+    (more d.1 e.0 e.0 e.1 [] e.2 refl end)))) in
+    let shows : Are a.0 b.0 c.0 d.0 e.0 = record {
       settings = shows_table a.0 settings_table _ settings_made a.3;
       settings_key = shows_key b.0 settings_table b.3;
       programs = shows_table c.0 programs_table _ programs_made c.3;
       scripts = shows_table d.0 scripts_table _ scripts_made d.3;
-      entries = shows_table e.0 entries_table _ entries_made e.3;
-      entries_key = shows_key f.0 entries_table f.3;
+      batches = shows_table e.0 batches_table _ batches_made e.3;
     } in
-    schema_is a.0 b.0 c.0 d.0 e.0 f.0 shows schema (subst (λ rows. AreListed rows schema) whole are)
+    schema_is a.0 b.0 c.0 d.0 e.0 shows schema (subst (λ rows. AreListed rows schema) {y = a.0 ∷ b.0 ∷ c.0 ∷ d.0 ∷ e.0 ∷ []} whole are)
 
 -- ---- a file that was just opened
 
@@ -470,9 +437,9 @@ module _ (file : State) (is : IsDatabase file.now) (all : ListsKept file) where
       let rising : IsTable objects = (subst (λ s. IsShaped s objects) listed.itself.0 (ordered catalog_tree)).0 in
       let are = is.lists.listed in
       let same : file.now.schema ≡ kept_schema = schema_so objects file.now.schema are (fronts_are objects rising (shows_objects file kept_objects is rising all)) in
-      let there : Has file.now.schema.tables entries_table = subst (λ (s : Schema). Has s.tables entries_table) (sym same) (inr (inr (inr (inl refl)))) in
-      let entries = subst (λ s. IsShaped s (file.now.trees entries_tree)) (table_shape listed rising are entries_table there).0 (ordered entries_tree) in
-      record { tables = same; sound = is; ordered = entries.0; numbered = entries.1 }
+      let there : Has file.now.schema.tables batches_table = subst (λ (s : Schema). Has s.tables batches_table) (sym same) (inr (inr (inr (inl refl)))) in
+      let batches = subst (λ s. IsShaped s (file.now.trees batches_tree)) (table_shape listed rising are batches_table there).0 (ordered batches_tree) in
+      record { tables = same; sound = is; ordered = batches.0; numbered = batches.1 }
 
   -- .. or there was nothing, and it lists nothing
   not_empty : file.now.trees catalog_tree ≡ [] → ⊥
@@ -506,8 +473,8 @@ kept_tables file after has later =
     record {
       tables = ap (λ (d : Database). d.schema) same ∙ has.tables;
       sound = subst IsDatabase (sym same) has.sound;
-      ordered = subst (λ (d : Database). IsTable (d.trees entries_tree)) (sym same) has.ordered;
-      numbered = subst (λ (d : Database). AllByRecursion (λ row. IsTrue (is_int (rowid row))) (d.trees entries_tree)) (sym same) has.numbered;
+      ordered = subst (λ (d : Database). IsTable (d.trees batches_tree)) (sym same) has.ordered;
+      numbered = subst (λ (d : Database). AllByRecursion (λ row. IsTrue (is_int (rowid row))) (d.trees batches_tree)) (sym same) has.numbered;
     }
 
 pub tables_still : (file after : State) → IsJustOpened file → ListsKept file → IsUnchanged file after → HasTables after

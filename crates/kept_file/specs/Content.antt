@@ -1,27 +1,26 @@
--- The entries that a file has, and what a statement makes of them.
-use Rattle.std.specs.Prelude.{◌≡◌, ◌⊎◌, ℕ, List, [], ◌∷◌, IsTrue}
+-- The batches that a file has, and the changes of a stripe in them.
+use Rattle.std.specs.Prelude.{◌≡◌, ℕ, Bool, not, List, [], ◌∷◌, ◌++◌, map, filter, IsTrue}
 use Rattle.std.specs.List.{AllByRecursion}
+use Rattle.std.specs.Ordering.{is_eq}
 use Rattle.sqlite.specs.Effect.{IsDatabase}
-use Rattle.sqlite.specs.Order.{Row, column}
+use Rattle.sqlite.specs.Order.{Row, column, value_cmp}
 use Rattle.sqlite.specs.Start.{FindsIn}
 use Rattle.sqlite.specs.State.{IsLive, Opens, State, Shown}
 use Rattle.sqlite_wal.specs.Recovery.{Image}
 use Rattle.sqlite.specs.Tree.{rowid, IsTable}
 use Rattle.sqlite.specs.View.{is_int}
 use Rattle.sqlite.specs.declared.types.Value.TheVariants.{Blob}
-use Rattle.sqlite_rules.specs.Lists.{Has}
-use Rattle.kept_file.specs.Reading.{row_of}
+use Rattle.kept_file.specs.Changes.{Change, Spells}
 use Rattle.kept_file.specs.Rows.{number}
-use Rattle.kept_file.specs.Tables.{kept_objects, kept_schema, entries_tree}
-use Rattle.kept_file.specs.declared.entries.KeptEntry.{KeptEntry}
+use Rattle.kept_file.specs.Tables.{kept_objects, kept_schema, batches_tree}
 use Rattle.kept_file.specs.declared.tables.TheConstants.{OBJECTS}
 
--- the file has the tables that a new file is given, and obeys them; the rows of its entries are in the order of their numbers
+-- the file has the tables that a new file is given, and obeys them; its batches are in the order of their numbers
 pub record HasTables (file : State) : Type 0 where
   pub tables : file.now.schema ≡ kept_schema
   pub sound : IsDatabase file.now
-  pub ordered : IsTable (file.now.trees entries_tree)
-  pub numbered : AllByRecursion (λ row. IsTrue (is_int (rowid row))) (file.now.trees entries_tree)
+  pub ordered : IsTable (file.now.trees batches_tree)
+  pub numbered : AllByRecursion (λ row. IsTrue (is_int (rowid row))) (file.now.trees batches_tree)
 
 -- its list of its objects is that of a new file
 abbrev pub ListsKept : State → Type 0
@@ -34,30 +33,40 @@ pub record IsJustOpened (file : State) : Type 0 where
   pub opened : Opens file
   pub live : IsLive file
 
--- the stripe, the key, the value and the deadline of a stored row
-abbrev pub entry_in : Row → Row
-entry_in stored = column stored 1 ∷ column stored 2 ∷ column stored 3 ∷ column stored 4 ∷ []
+-- the number, the stripe and the changes of a stored batch
+abbrev pub batch_in : Row → Row
+batch_in stored = rowid stored ∷ column stored 2 ∷ column stored 3 ∷ []
 
--- the file has an entry of this row
-abbrev pub HasEntry : State → Row → Type 0
-HasEntry file row = (stored : Row) × Has (file.now.trees entries_tree) stored × (row ≡ entry_in stored)
+-- the file's batches, in the order of their numbers
+abbrev pub batches_of : State → List Row
+batches_of file = map batch_in (file.now.trees batches_tree)
 
--- the row is an entry's of this stripe
-abbrev pub IsOfStripe : ℕ → Row → Type 0
-IsOfStripe stripe row = column row 0 ≡ number stripe
+-- the file has these batches, and the tables of a new file
+pub record HasBatches (file : State) (batches : List Row) : Type 0 where
+  pub tables : HasTables file
+  pub are : batches_of file ≡ batches
 
--- .. and of this key
-abbrev pub IsOfKey : ℕ → List ℕ → Row → Type 0
-IsOfKey stripe key row = IsOfStripe stripe row × (column row 1 ≡ Blob key)
+-- the batch is of this stripe
+abbrev pub is_of : ℕ → Row → Bool
+is_of stripe batch = is_eq (value_cmp (column batch 1) (number stripe))
 
--- the entries that are `gone` go, these come, and the others stay
-pub record Exchanges (gone : Row → Type 0) (news : List Row) (old new : State) : Type 0 where
-  pub adds : (row : Row) → Has news row → HasEntry new row
-  pub keeps : (row : Row) → HasEntry old row → gone row ⊎ HasEntry new row
-  pub only : (row : Row) → HasEntry new row → Has news row ⊎ (HasEntry old row × ¬ gone row)
-  pub tables : HasTables new
+-- those of other stripes
+abbrev pub others_of : ℕ → List Row → List Row
+others_of stripe batches = filter (λ batch. not (is_of stripe batch)) batches
 
--- these are just the entries that the file has
-pub record AreEntries (file : State) (entries : List KeptEntry) : Type 0 where
-  pub sound : (entry : KeptEntry) → Has entries entry → HasEntry file (row_of entry)
-  pub complete : (row : Row) → HasEntry file row → (entry : KeptEntry) × Has entries entry × (row ≡ row_of entry)
+-- a batch of this stripe with these bytes comes after all others
+pub record Appends (stripe : ℕ) (bytes : List ℕ) (old new : State) : Type 0 where
+  pub batch : Row
+  pub of_stripe : column batch 1 ≡ number stripe
+  pub has_bytes : column batch 2 ≡ Blob bytes
+  pub appended : HasBatches new (batches_of old ++ batch ∷ [])
+
+-- what the batches spell, one after the other
+unfoldable pub Joins : List Row → List Change → Type 0
+Joins [] changes = changes ≡ []
+Joins (batch ∷ batches) changes =
+    (bytes : List ℕ) × (first : List Change) × (more : List Change) × (column batch 2 ≡ Blob bytes) × Spells bytes first × (changes ≡ first ++ more) × Joins batches more
+
+-- the changes of a stripe in these batches, in their order
+abbrev pub ChangesOf : ℕ → List Row → List Change → Type 0
+ChangesOf stripe batches = Joins (filter (is_of stripe) batches)

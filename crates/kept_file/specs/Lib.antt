@@ -1,3 +1,4 @@
+pub mod Changes
 pub mod Content
 pub mod Faults
 pub mod Lending

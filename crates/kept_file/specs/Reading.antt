@@ -1,5 +1,6 @@
--- What is read of a file: the answers of the queries for its entries, its programs and its scripts.
-use Rattle.std.specs.Prelude.{◌≡◌, Bool, true, false, ℕ, List, [], ◌∷◌, ◌++◌, map, None, Ok}
+-- What is read of a file: the answers of the queries for its batches, its programs and its scripts.
+use Rattle.std.specs.Prelude.{◌≡◌, ◌≤◌, Bool, true, false, ℕ, List, [], ◌∷◌, ◌++◌, map, None, Ok}
+use Rattle.std.specs.List.{AllByRecursion}
 use Rattle.sqlite_resolve.specs.declared.compiled.Compiled.{Compiled}
 use Rattle.sqlite.specs.Given.{HasGiven}
 use Rattle.sqlite.specs.Held.{Held, state}
@@ -8,20 +9,21 @@ use Rattle.sqlite.specs.Order.{Row, column}
 use Rattle.sqlite.specs.Schema.{Schema}
 use Rattle.sqlite.specs.State.{State, IsUnchanged, Shown}
 use Rattle.sqlite.specs.Store.{Ghosts}
+use Rattle.sqlite.specs.Tree.{rowid, IsTable}
 use Rattle.sqlite.specs.declared.types.Value.TheVariants.{Blob}
-use Rattle.kept_file.specs.Rows.{entry_row, program_row}
-use Rattle.kept_file.specs.declared.entries.KeptEntry.{KeptEntry}
-use Rattle.kept_file.specs.declared.entries.TheConstants.{ENTRIES}
+use Rattle.kept_file.specs.Rows.{batch_row, number, program_row}
+use Rattle.kept_file.specs.declared.batches.KeptBatch.{KeptBatch}
+use Rattle.kept_file.specs.declared.batches.TheConstants.{BATCHES}
 use Rattle.kept_file.specs.declared.rows.KeptProgram.{KeptProgram}
 use Rattle.kept_file.specs.declared.rows.TheConstants.{PROGRAMS, SCRIPTS}
 
--- the row of an entry
-abbrev pub row_of : KeptEntry → Row
-row_of entry = entry_row entry.stripe entry.key entry.value entry.deadline
+-- the row of a batch
+abbrev pub row_of : KeptBatch → Row
+row_of batch = batch_row batch.number batch.stripe batch.bytes.items
 
--- the file has these entries and no others: the query for them shows just their rows, in this order
-abbrev pub HasEntries : State → List KeptEntry → Type 0
-HasEntries file entries = Shown ENTRIES.now [] file file (map row_of entries)
+-- the query for the batches shows just these rows, in this order
+abbrev pub ShowsBatches : State → List Row → Type 0
+ShowsBatches file rows = Shown BATCHES.now [] file file rows
 
 -- the row of a program
 abbrev pub row_of_program : KeptProgram → Row
@@ -41,16 +43,21 @@ pub record HasScripts (file : State) (texts : List (List ℕ)) : Type 0 where
 abbrev pub OnlyReads : List ℕ → Type 0
 OnlyReads text = (schema : Schema) (c : Compiled) → understood schema text ≡ Ok c → (c.returning ≡ None) × (c.formats ≡ [])
 
+-- the numbers of these batches rise, up to this one
+pub record RisesTo (rows : List Row) (last : ℕ) : Type 0 where
+  pub rising : IsTable rows
+  pub below : AllByRecursion (λ row. (at : ℕ) × (rowid row ≡ number at) × (at ≤ last)) rows
+
 module _ {S : Type 0} (g : Ghosts S) where
-  -- a reading that began with the file as at the start has handed out these entries, and has changed nothing
-  abbrev pub HandedOut : Held S → Held S → List KeptEntry → Type 0
-  HandedOut start now entries = HasGiven g ENTRIES.now [] now (map row_of entries) × IsUnchanged (state g start) (state g now)
+  -- a reading that began with the file as at the start has handed out these batches, and has changed nothing
+  abbrev pub HandedOut : Held S → Held S → List Row → Type 0
+  HandedOut start now rows = HasGiven g BATCHES.now [] now rows × IsUnchanged (state g start) (state g now)
 
-  -- then it hands out one more, or the file has just these
-  abbrev pub GoesOn : Held S → Held S → List KeptEntry → Bool → KeptEntry → Type 0
-  GoesOn start now entries true entry = HandedOut start now (entries ++ entry ∷ [])
-  GoesOn start now entries false entry = HasEntries (state g start) entries × IsUnchanged (state g start) (state g now)
+  -- then it hands out one more, or the query shows just these
+  abbrev pub GoesOn : Held S → Held S → List Row → Bool → Row → Type 0
+  GoesOn start now rows true row = HandedOut start now (rows ++ row ∷ [])
+  GoesOn start now rows false row = ShowsBatches (state g start) rows × IsUnchanged (state g start) (state g now)
 
-  -- what one step of a reading comes to, if it found an entry or none
-  abbrev pub HandsOut : Held S → Held S → Bool → KeptEntry → Type 0
-  HandsOut old new found entry = (start : Held S) (entries : List KeptEntry) → HandedOut start old entries → GoesOn start new entries found entry
+  -- what one step of a reading comes to, if it found a batch or none
+  abbrev pub HandsOut : Held S → Held S → Bool → Row → Type 0
+  HandsOut old new found row = (start : Held S) (rows : List Row) → HandedOut start old rows → GoesOn start new rows found row

@@ -1,7 +1,6 @@
 -- Rows of the tables.
-use Rattle.std.specs.Prelude.{ℕ, ◌-◌, ◌^◌, List, [], ◌∷◌, Option, pos, min, codes}
+use Rattle.std.specs.Prelude.{ℕ, ◌-◌, ◌^◌, List, [], ◌∷◌, pos, min, codes}
 use Rattle.bpf_model.specs.declared.input.Sizes.{Sizes}
-use Rattle.sqlite.specs.Values.{or_null}
 use Rattle.sqlite.specs.Order.{Row}
 use Rattle.sqlite.specs.declared.types.Value.{Value}
 use Rattle.sqlite.specs.declared.types.Value.TheVariants.{Int, Text, Blob}
@@ -13,9 +12,9 @@ kept_number n = min n (2 ^ 63 - 1)
 abbrev pub number : ℕ → Value
 number n = Int (pos n)
 
--- a stripe, a key, its value and its deadline
-abbrev pub entry_row : ℕ → List ℕ → List ℕ → Option ℕ → Row
-entry_row stripe key value deadline = number stripe ∷ Blob key ∷ Blob value ∷ or_null number deadline ∷ []
+-- a batch: its number, its stripe and the bytes of its changes
+abbrev pub batch_row : ℕ → ℕ → List ℕ → Row
+batch_row at stripe bytes = number at ∷ number stripe ∷ Blob bytes ∷ []
 
 -- a program's number, its four sizes and its bytes
 abbrev pub program_row : ℕ → Sizes → List ℕ → Row

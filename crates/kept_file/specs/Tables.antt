@@ -48,18 +48,17 @@ programs_table = table_of (codes "programs") 2
 abbrev pub scripts_table : Table
 scripts_table = table_of (codes "scripts") 3 (column_of (codes "number") Integer false ∷ column_of (codes "text") Blob true ∷ []) (Some 0) (0 ∷ []) []
 
-abbrev pub entries_tree : ℕ
-entries_tree = 4
+abbrev pub batches_tree : ℕ
+batches_tree = 4
 
-abbrev pub entries_table : Table
-entries_table = table_of (codes "entries") entries_tree
-    (column_of (codes "stripe") Integer true ∷ column_of (codes "key") Blob true ∷ column_of (codes "value") Blob true ∷ column_of (codes "deadline") Integer false ∷ [])
-    None (1 ∷ 2 ∷ []) ((1 ∷ 2 ∷ []) ∷ [])
+abbrev pub batches_table : Table
+batches_table = table_of (codes "batches") batches_tree
+    (column_of (codes "number") Integer false ∷ column_of (codes "stripe") Integer true ∷ column_of (codes "changes") Blob true ∷ []) (Some 0) (0 ∷ []) []
 
 abbrev pub kept_schema : Schema
 kept_schema = record {
-  tables = settings_table ∷ programs_table ∷ scripts_table ∷ entries_table ∷ [];
-  indexes = index_of (codes "settings_1") 1 0 (1 ∷ []) ∷ index_of (codes "entries_1") 5 4 (1 ∷ 2 ∷ []) ∷ [];
+  tables = settings_table ∷ programs_table ∷ scripts_table ∷ batches_table ∷ [];
+  indexes = index_of (codes "settings_1") 1 0 (1 ∷ []) ∷ [];
   views = [];
 }
 
@@ -79,4 +78,4 @@ key_row at table = object_row at (codes "index") (key_name table) table Null
 
 abbrev pub kept_objects : List Row
 kept_objects = table_row 1 (codes "settings") schema.SETTINGS.now ∷ key_row 2 (codes "settings") ∷ table_row 3 (codes "programs") schema.PROGRAMS.now
-    ∷ table_row 4 (codes "scripts") schema.SCRIPTS.now ∷ table_row 5 (codes "entries") schema.ENTRIES.now ∷ key_row 6 (codes "entries") ∷ []
+    ∷ table_row 4 (codes "scripts") schema.SCRIPTS.now ∷ table_row 5 (codes "batches") schema.BATCHES.now ∷ []

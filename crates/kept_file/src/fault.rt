@@ -14,6 +14,8 @@ pub enum KeepFault {
     NotKept,
     /// A later server wrote it: its format has this number.
     Newer { format: u64 },
+    /// An earlier server wrote it: its format has this number.
+    Older { format: u64 },
     /// Its bytes are damaged, or it has a row that no server writes.
     Damaged,
     /// A key has more than 64 bytes, or a value more than 1,024.
@@ -35,6 +37,7 @@ impl fmt::Display for KeepFault {
         match self {
             KeepFault::NotKept => f.write_str("not a file of this server's"),
             KeepFault::Newer { format } => write!(f, "of a newer format ({format})"),
+            KeepFault::Older { format } => write!(f, "of an older format ({format})"),
             KeepFault::Damaged => f.write_str("damaged"),
             KeepFault::TooLong => f.write_str("a key or a value in it is too long"),
             KeepFault::Busy => f.write_str("in use by another process"),

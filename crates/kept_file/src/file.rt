@@ -8,8 +8,8 @@ ghost use Rattle.kept_file.specs.Content.{HasTables, IsJustOpened, ListsKept};
 ghost use Rattle.kept_file.specs.Lending.{LendsConnection};
 ghost use Rattle.kept_file.specs.Reading.{HasPrograms, HasScripts};
 
+use crate::batches;
 use crate::counts::{self, EntryCounts};
-use crate::entries;
 use crate::fault::{KeepFault, read_fault, write_fault};
 use crate::query::{number_of, setting};
 use crate::rows::{self, KeptProgram};
@@ -61,7 +61,7 @@ fn connect(rt: &HostRuntime, path: &str) -> Result<Connection<OnDisk>, KeepFault
 
 impl KeptFile<OnDisk> {
     /// Opens the file at a path, and makes it if there is none, or if it is empty. The whole file is read and tested. A file that is
-    /// refused stays as it is. `NotKept`, `Newer`, `Damaged` and `Busy` as they say; `Unreadable` if it cannot be opened or read,
+    /// refused stays as it is. `NotKept`, `Newer`, `Older`, `Damaged` and `Busy` as they say; `Unreadable` if it cannot be opened or read,
     /// `Unwritable` or `Full` if a new one cannot be written, `NoMemory` if a request for memory is refused.
     pub fn open(rt: &HostRuntime, path: &str) -> Result<KeptFile<OnDisk>, KeepFault>
         ensures tables { IfOk result (λ file. HasCleanDisk (file_state file.conn) → HasTables (file_state file.conn)) }
@@ -128,7 +128,8 @@ impl<S: Alter> KeptFile<S> {
         save.commit().map_err(write_fault)
     }
 
-    /// Tests whether the database has the tables that `make` makes. `Newer` if a later server made it; else `NotKept`.
+    /// Tests whether the database has the tables that `make` makes. `Newer` if a later server made it, `Older` if an earlier one; else
+    /// `NotKept`.
     fn check(&mut self) -> Result<(), KeepFault>
         ensures lists { HasCleanDisk (state S.Store self.new.conn) → OnOk result (ListsKept (state S.Store self.old.conn)) }
         ensures same { HasCleanDisk (state S.Store self.new.conn) → OnOk result (IsUnchanged (state S.Store self.old.conn) (state S.Store self.new.conn)) }
@@ -137,6 +138,7 @@ impl<S: Alter> KeptFile<S> {
         match setting(&mut self.conn, "format") {
             Ok(FORMAT) => expect_kept_objects(&mut self.conn),
             Ok(format) if format > FORMAT => Err(KeepFault::Newer { format }),
+            Ok(format) if format > 0 => Err(KeepFault::Older { format }),
             Err(KeepFault::NoMemory) => Err(KeepFault::NoMemory),
             Err(KeepFault::Unreadable) => Err(KeepFault::Unreadable),
             _ => Err(KeepFault::NotKept),
@@ -170,11 +172,12 @@ impl<S: Alter> KeptFile<S> {
         rows::scripts(alloc, &mut self.conn)
     }
 
-    /// Reads all entries, tests each, and counts them. The faults of `entries::next`.
-    pub fn count(&mut self) -> Result<EntryCounts, KeepFault> {
+    /// Reads all batches, tests each, and counts the entries that they come to. The faults of `batches::next`, and those of
+    /// `KeptChange::read`.
+    pub fn count(&mut self, alloc: Global) -> Result<EntryCounts, KeepFault> {
         let stripes = self.stripes()?;
-        let mut entries = entries::begin(&mut self.conn)?;
-        counts::count(&mut entries, stripes)
+        let mut batches = batches::begin(&mut self.conn)?;
+        counts::count(alloc, &mut batches, stripes)
     }
 
     /// Returns the connection to the database, for a transaction. If it is no save's, the file may have what no other call here reads.

@@ -2,12 +2,13 @@
 //!
 //! `KeptFile::open` opens it or makes it. A save is one transaction of its `connection`: until `Save::commit` the file is as it
 //! was, and if the save is dropped, or the process ends, it stays so (`Survives` of the kit's `sqlite`). What a file holds is read
-//! back as programs, scripts and entries, or refused: a row that no save wrote is never handed out. A refused request for memory
+//! back as programs, scripts and batches of changes, or refused: a row that no save wrote is never handed out. A refused request for memory
 //! is the fault `NoMemory`.
 #![tactic(auto)]
 
+pub mod batches;
+mod changes;
 mod counts;
-pub mod entries;
 mod fault;
 mod file;
 mod query;
@@ -16,8 +17,9 @@ pub mod save;
 mod schema;
 mod tables;
 
+pub use batches::{Batches, KeptBatch};
+pub use changes::{Batch, KeptChange, Kind};
 pub use counts::EntryCounts;
-pub use entries::{Entries, KeptEntry};
 pub use fault::KeepFault;
 pub use file::{KeptFile, OnDisk};
 pub use rows::KeptProgram;

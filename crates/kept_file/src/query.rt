@@ -3,7 +3,6 @@ ghost use Rattle.std.specs.Prelude.{◌≡◌, IfOk, OnOk};
 ghost use Rattle.sqlite.specs.Held.{state};
 ghost use Rattle.sqlite.specs.Order.{column};
 ghost use Rattle.sqlite.specs.State.{HasCleanDisk, IsUnchanged, Survives};
-ghost use Rattle.sqlite.specs.Values.{or_null};
 ghost use Rattle.sqlite.specs.declared.types.Value.TheVariants.{Blob};
 ghost use Rattle.kept_file.specs.Reading.{OnlyReads};
 ghost use Rattle.kept_file.specs.Rows.{number};
@@ -54,13 +53,6 @@ pub(crate) fn bytes_at(row: &Row, at: usize) -> Result<&[u8], KeepFault>
 /// Returns the number in a column. `Damaged` if it has none, or a negative one.
 pub(crate) fn number_at(row: &Row, at: usize) -> Result<u64, KeepFault>
     ensures { IfOk result (λ n. column row.now at ≡ number n) }
-{
-    row.get(at).map_err(read_fault)
-}
-
-/// Returns the number in a column that may have none. `Damaged` if it has something else, or a negative number.
-pub(crate) fn number_or_none_at(row: &Row, at: usize) -> Result<Option<u64>, KeepFault>
-    ensures { IfOk result (λ n. column row.now at ≡ or_null number n) }
 {
     row.get(at).map_err(read_fault)
 }

@@ -1,15 +1,16 @@
 //! What a save writes, in one transaction. After a fault drop the save: a commit would keep what was made before it.
-ghost use Rattle.std.specs.Prelude.{◌≡◌, pos, [], ◌∷◌, Some, None, OnOk, option_map};
+ghost use Rattle.std.specs.Prelude.{◌≡◌, pos, [], ◌∷◌, OnOk};
 ghost use Rattle.sqlite.specs.Held.{state};
 ghost use Rattle.sqlite.specs.State.{HasCleanDisk, Survives};
 ghost use Rattle.sqlite.specs.Values.{bound};
 ghost use Rattle.sqlite.specs.declared.types.Value.TheVariants.{Blob};
-ghost use Rattle.kept_file.specs.Content.{Exchanges, HasTables, IsOfKey, IsOfStripe};
-ghost use Rattle.kept_file.specs.Rows.{kept_number, number, entry_row, program_row, stripes_row};
+ghost use Rattle.kept_file.specs.Content.{Appends, HasBatches, HasTables, batches_of, others_of};
+ghost use Rattle.kept_file.specs.Rows.{kept_number, number, program_row, stripes_row};
 ghost use Rattle.kept_file.specs.Saves.{Makes};
 
+use crate::changes::Batch;
 use crate::fault::{KeepFault, write_fault};
-use crate::schema::{FORMAT, PROGRAM, PUT, REMOVE, SCRIPT, SET, START_ANEW, TABLES};
+use crate::schema::{APPEND, FORMAT, PROGRAM, SCRIPT, SET, START_ANEW, TABLES};
 use bpf_model::Sizes;
 use sqlite::types::ValueRef;
 use sqlite::{Alter, Transaction, params};
@@ -60,7 +61,7 @@ pub fn set_stripes<S: Alter>(save: &mut Save<'_, S>, stripes: u64) -> Result<(),
     run(save, SET, params!["stripes", kept(stripes)])
 }
 
-/// Makes the statement that takes away all entries of a stripe.
+/// Makes the statement that takes away all batches of a stripe.
 fn clear<S: Alter>(save: &mut Save<'_, S>, stripe: u64) -> Result<(), KeepFault>
     ensures same_reference { save.new.conn.ghost_name ≡ save.old.conn.ghost_name }
     ensures made { HasCleanDisk (state S.Store save.new.conn.now) → OnOk result
@@ -70,90 +71,38 @@ fn clear<S: Alter>(save: &mut Save<'_, S>, stripe: u64) -> Result<(), KeepFault>
     run(save, START_ANEW, params![kept(stripe)])
 }
 
-/// Takes away all entries of a stripe.
+/// Takes away all batches of a stripe.
 pub fn start_anew<S: Alter>(save: &mut Save<'_, S>, stripe: u64) -> Result<(), KeepFault>
     ensures same_reference { save.new.conn.ghost_name ≡ save.old.conn.ghost_name }
     ensures made { HasCleanDisk (state S.Store save.new.conn.now) → OnOk result
         (Makes START_ANEW.now (number (kept_number stripe) ∷ []) (state S.Store save.old.conn.now) (state S.Store save.new.conn.now)) }
-    ensures entries { HasCleanDisk (state S.Store save.new.conn.now) → HasTables (state S.Store save.old.conn.now) → OnOk result
-        (Exchanges (IsOfStripe (kept_number stripe)) [] (state S.Store save.old.conn.now) (state S.Store save.new.conn.now)) }
+    ensures batches { HasCleanDisk (state S.Store save.new.conn.now) → HasTables (state S.Store save.old.conn.now) → OnOk result
+        (HasBatches (state S.Store save.new.conn.now) (others_of (kept_number stripe) (batches_of (state S.Store save.old.conn.now)))) }
     ensures kept { Survives (state S.Store save.old.conn.now) (state S.Store save.new.conn.now) (λ _. ⊥) }
 {
     clear(save, stripe)
 }
 
-/// Enters an entry that has no deadline.
-fn put_for_good<S: Alter>(
-    save: &mut Save<'_, S>,
-    stripe: u64,
-    key: &[u8],
-    value: &[u8],
-) -> Result<(), KeepFault>
+/// Makes the statement that enters a batch of a stripe.
+fn enter<S: Alter>(save: &mut Save<'_, S>, stripe: u64, bytes: &[u8]) -> Result<(), KeepFault>
     ensures same_reference { save.new.conn.ghost_name ≡ save.old.conn.ghost_name }
     ensures made { HasCleanDisk (state S.Store save.new.conn.now) → OnOk result
-        (Makes PUT.now (entry_row (kept_number stripe) key.now value.now None) (state S.Store save.old.conn.now) (state S.Store save.new.conn.now)) }
+        (Makes APPEND.now (number (kept_number stripe) ∷ Blob bytes.now ∷ []) (state S.Store save.old.conn.now) (state S.Store save.new.conn.now)) }
     ensures kept { Survives (state S.Store save.old.conn.now) (state S.Store save.new.conn.now) (λ _. ⊥) }
 {
-    run(save, PUT, params![kept(stripe), key, value, None::<i64>])
+    run(save, APPEND, params![kept(stripe), bytes])
 }
 
-/// Enters an entry that has a deadline.
-fn put_until<S: Alter>(
-    save: &mut Save<'_, S>,
-    stripe: u64,
-    key: &[u8],
-    value: &[u8],
-    deadline: u64,
-) -> Result<(), KeepFault>
+/// Enters a batch of changes of a stripe, after all batches that are there.
+pub fn append<S: Alter>(save: &mut Save<'_, S>, stripe: u64, batch: &Batch) -> Result<(), KeepFault>
     ensures same_reference { save.new.conn.ghost_name ≡ save.old.conn.ghost_name }
     ensures made { HasCleanDisk (state S.Store save.new.conn.now) → OnOk result
-        (Makes PUT.now (entry_row (kept_number stripe) key.now value.now (Some (kept_number deadline))) (state S.Store save.old.conn.now) (state S.Store save.new.conn.now)) }
+        (Makes APPEND.now (number (kept_number stripe) ∷ Blob batch.now.bytes.items ∷ []) (state S.Store save.old.conn.now) (state S.Store save.new.conn.now)) }
+    ensures batches { HasCleanDisk (state S.Store save.new.conn.now) → HasTables (state S.Store save.old.conn.now) → OnOk result
+        (Appends (kept_number stripe) batch.now.bytes.items (state S.Store save.old.conn.now) (state S.Store save.new.conn.now)) }
     ensures kept { Survives (state S.Store save.old.conn.now) (state S.Store save.new.conn.now) (λ _. ⊥) }
 {
-    run(save, PUT, params![kept(stripe), key, value, kept(deadline)])
-}
-
-/// Enters an entry, in place of the one that its key has in this stripe.
-pub fn put<S: Alter>(
-    save: &mut Save<'_, S>,
-    stripe: u64,
-    key: &[u8],
-    value: &[u8],
-    deadline: Option<u64>,
-) -> Result<(), KeepFault>
-    ensures same_reference { save.new.conn.ghost_name ≡ save.old.conn.ghost_name }
-    ensures made { HasCleanDisk (state S.Store save.new.conn.now) → OnOk result
-        (Makes PUT.now (entry_row (kept_number stripe) key.now value.now (option_map kept_number deadline)) (state S.Store save.old.conn.now) (state S.Store save.new.conn.now)) }
-    ensures entries { HasCleanDisk (state S.Store save.new.conn.now) → HasTables (state S.Store save.old.conn.now) → OnOk result
-        (Exchanges (IsOfKey (kept_number stripe) key.now) (entry_row (kept_number stripe) key.now value.now (option_map kept_number deadline) ∷ []) (state S.Store save.old.conn.now) (state S.Store save.new.conn.now)) }
-    ensures kept { Survives (state S.Store save.old.conn.now) (state S.Store save.new.conn.now) (λ _. ⊥) }
-{
-    match deadline {
-        None => put_for_good(save, stripe, key, value),
-        Some(deadline) => put_until(save, stripe, key, value, deadline),
-    }
-}
-
-/// Makes the statement that takes away the entry of a key in a stripe.
-fn clear_key<S: Alter>(save: &mut Save<'_, S>, stripe: u64, key: &[u8]) -> Result<(), KeepFault>
-    ensures same_reference { save.new.conn.ghost_name ≡ save.old.conn.ghost_name }
-    ensures made { HasCleanDisk (state S.Store save.new.conn.now) → OnOk result
-        (Makes REMOVE.now (number (kept_number stripe) ∷ Blob key.now ∷ []) (state S.Store save.old.conn.now) (state S.Store save.new.conn.now)) }
-    ensures kept { Survives (state S.Store save.old.conn.now) (state S.Store save.new.conn.now) (λ _. ⊥) }
-{
-    run(save, REMOVE, params![kept(stripe), key])
-}
-
-/// Takes away the entry that a key has in a stripe, if there is one.
-pub fn remove<S: Alter>(save: &mut Save<'_, S>, stripe: u64, key: &[u8]) -> Result<(), KeepFault>
-    ensures same_reference { save.new.conn.ghost_name ≡ save.old.conn.ghost_name }
-    ensures made { HasCleanDisk (state S.Store save.new.conn.now) → OnOk result
-        (Makes REMOVE.now (number (kept_number stripe) ∷ Blob key.now ∷ []) (state S.Store save.old.conn.now) (state S.Store save.new.conn.now)) }
-    ensures entries { HasCleanDisk (state S.Store save.new.conn.now) → HasTables (state S.Store save.old.conn.now) → OnOk result
-        (Exchanges (IsOfKey (kept_number stripe) key.now) [] (state S.Store save.old.conn.now) (state S.Store save.new.conn.now)) }
-    ensures kept { Survives (state S.Store save.old.conn.now) (state S.Store save.new.conn.now) (λ _. ⊥) }
-{
-    clear_key(save, stripe, key)
+    enter(save, stripe, batch.as_slice())
 }
 
 /// Adds a program. No program of the file may have its number: else `Damaged`, and nothing is added.

@@ -11,7 +11,7 @@ ghost use Rattle.kept_file.specs.Tables.{kept_objects, object_row, table_row};
 use crate::fault::KeepFault;
 use crate::query::number_at;
 use crate::rows::all_rows;
-use crate::schema::{ENTRIES, PROGRAMS, SCRIPTS, SETTINGS};
+use crate::schema::{BATCHES, PROGRAMS, SCRIPTS, SETTINGS};
 use sqlite::types::ValueRef;
 use sqlite::{Alter, Connection, Row};
 
@@ -85,23 +85,14 @@ fn expect(holds: bool) -> Result<(), KeepFault>
 fn expect_kept(rows: &[Row]) -> Result<(), KeepFault>
     ensures { OnOk result (rows.now ≡ kept_objects) }
 {
-    let [
-        settings,
-        settings_key,
-        programs,
-        scripts,
-        entries,
-        entries_key,
-    ] = rows
-    else {
+    let [settings, settings_key, programs, scripts, batches] = rows else {
         return Err(KeepFault::NotKept);
     };
     expect(is_table(settings, 1, "settings", SETTINGS))?;
     expect(is_key(settings_key, 2, "sqlite_autoindex_settings_1", "settings"))?;
     expect(is_table(programs, 3, "programs", PROGRAMS))?;
     expect(is_table(scripts, 4, "scripts", SCRIPTS))?;
-    expect(is_table(entries, 5, "entries", ENTRIES))?;
-    expect(is_key(entries_key, 6, "sqlite_autoindex_entries_1", "entries"))
+    expect(is_table(batches, 5, "batches", BATCHES))
 }
 
 /// Tests a file's list of its objects. `NotKept` if it is not that of a new file, else the faults of `read_fault`.

@@ -95,7 +95,7 @@ fn tell_programs(
 fn text_of(alloc: Global, file: &mut KeptFile<OnDisk>) -> Result<String, Refusal> {
     let mut text = String::new(alloc);
     let stripes = file.stripes()?;
-    let counts = file.count()?;
+    let counts = file.count(alloc)?;
     tell_entries(alloc, &mut text, stripes, &counts)?;
     let scripts = file.scripts(alloc)?.len();
     text.push_str(format!(in alloc; "scripts {scripts}\n")?.as_str())?;

@@ -1,0 +1,58 @@
+-- Changes of entries, and the bytes that spell them in a batch.
+use Rattle.std.specs.Prelude.{◌≡◌, ℕ, ◌≤◌, ◌<◌, ◌^◌, List, [], ◌∷◌, ◌++◌, length, flat_map, Option, Some, None, IfSome}
+use Rattle.std.specs.Int.{w32, w64, to_le_bytes}
+use Rattle.bpf_model.specs.declared.limits.TheConstants.{KEY_BYTES, VALUE_BYTES}
+use Rattle.kept_file.specs.declared.changes.Kind.{Kind}
+use Rattle.kept_file.specs.declared.changes.Kind.TheVariants.{Removed, Lasting, Until}
+use Rattle.kept_file.specs.declared.changes.KeptChange.{KeptChange}
+
+-- what a key has: a value, with a deadline or none; or nothing
+abbrev pub Entry : Type 0
+Entry = Option (List ℕ × Option ℕ)
+
+-- a key, and what it has from then on
+abbrev pub Change : Type 0
+Change = List ℕ × Entry
+
+abbrev pub entry_of : Kind → List ℕ → Entry
+entry_of Removed value = None
+entry_of Lasting value = Some (value, None)
+entry_of (Until at) value = Some (value, Some at)
+
+abbrev pub change_of : KeptChange → Change
+change_of change = (change.key, entry_of change.kind change.value)
+
+-- the byte that says what the key has
+abbrev pub kind_byte : Entry → ℕ
+kind_byte None = 0
+kind_byte (Some (value, None)) = 1
+kind_byte (Some (value, Some at)) = 2
+
+-- a deadline, in eight bytes, the lowest first
+abbrev pub deadline_bytes : Option ℕ → List ℕ
+deadline_bytes None = []
+deadline_bytes (Some at) = to_le_bytes w64 at
+
+-- the deadline, the length of the value in four bytes, and the value
+abbrev pub entry_bytes : Entry → List ℕ
+entry_bytes None = []
+entry_bytes (Some entry) = deadline_bytes entry.1 ++ (to_le_bytes w32 (length entry.0) ++ entry.0)
+
+-- the length of the key, a byte that says what it has, the key, and what it has
+abbrev pub change_bytes : Change → List ℕ
+change_bytes change = length change.0 ∷ kind_byte change.1 ∷ (change.0 ++ entry_bytes change.1)
+
+-- .. one after the other
+abbrev pub changes_bytes : List Change → List ℕ
+changes_bytes changes = flat_map change_bytes changes
+
+-- its key and its value have as many bytes as they may have, and its deadline is one of 64 bits
+pub record IsWithin (change : Change) : Type 0 where
+  pub key : length change.0 ≤ KEY_BYTES
+  pub value : IfSome change.1 (λ entry. length entry.0 ≤ VALUE_BYTES)
+  pub deadline : IfSome change.1 (λ entry. IfSome entry.1 (λ at. at < 2 ^ 64))
+
+-- the bytes spell these changes, and no more
+unfoldable pub Spells : List ℕ → List Change → Type 0
+Spells bytes [] = bytes ≡ []
+Spells bytes (change ∷ more) = (rest : List ℕ) × (bytes ≡ change_bytes change ++ rest) × IsWithin change × Spells rest more

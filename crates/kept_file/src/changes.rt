@@ -1,0 +1,227 @@
+//! Changes of entries, as the bytes of a batch.
+//!
+//! A change is the length of its key in one byte, a byte that says what the key has (0 nothing, 1 a value, 2 a value with a deadline),
+//! the key, the deadline in eight bytes, the length of the value in four, and the value. The lowest byte of a number comes first.
+ghost use Rattle.std.specs.Prelude.{◌≡◌, ◌≤◌, [], ◌∷◌, ◌++◌, length, Some, None, IfOk, OnOk};
+ghost use Rattle.std.specs.Int.{w32, w64, to_le_bytes};
+ghost use Rattle.kept_file.specs.Changes.{IsWithin, change_bytes, change_of, entry_bytes, entry_of, kind_byte};
+
+use crate::fault::KeepFault;
+use bpf_model::limits::{KEY_BYTES, VALUE_BYTES};
+use bpf_model::{Key, Value};
+use std::alloc::Global;
+
+/// What a key has since a change.
+#[derive(Clone, Copy, Debug, PartialEq, Eq)]
+pub enum Kind {
+    /// Nothing.
+    Removed,
+    /// A value without a deadline.
+    Lasting,
+    /// A value with this deadline, in milliseconds since the epoch.
+    Until(u64),
+}
+
+/// A change of an entry, to be read into.
+#[derive(Debug, Drop)]
+pub struct KeptChange {
+    pub key: Key,
+    /// The value, unless the key is removed.
+    pub value: Value,
+    pub kind: Kind,
+}
+
+impl KeptChange {
+    /// Makes one that removes the empty key, to be read into.
+    pub fn new() -> KeptChange {
+        KeptChange {
+            key: Key::from_slice(b"").unwrap(),
+            value: Value::new(),
+            kind: Kind::Removed,
+        }
+    }
+
+    /// Reads the change with which these bytes begin, and returns the bytes after it. `Damaged` if they begin with none; `TooLong` if its
+    /// key has more than 64 bytes or its value more than 1,024. After a fault `self` may hold part of a change.
+    pub fn read<'a>(&mut self, bytes: &'a [u8]) -> Result<&'a [u8], KeepFault>
+        ensures { IfOk result (λ rest. IsWithin (change_of self.new) × (bytes.now ≡ change_bytes (change_of self.new) ++ rest.now)) }
+    {
+        let (length, rest) = first_byte(bytes)?;
+        let (kind, rest) = first_byte(rest)?;
+        let length = usize::from(length);
+        if length > KEY_BYTES {
+            return Err(KeepFault::TooLong);
+        }
+        let (key, rest) = first_bytes(rest, length)?;
+        self.key.set_from(key);
+        self.read_entry(kind, rest)
+    }
+
+    /// Reads what the key has, after the key; `kind` is the byte that says what that is. `Damaged` if no kind has this byte or there are
+    /// too few bytes; `TooLong` if the value has more than 1,024.
+    fn read_entry<'a>(&mut self, kind: u8, bytes: &'a [u8]) -> Result<&'a [u8], KeepFault>
+        requires { length self.now.key ≤ KEY_BYTES }
+        ensures { IfOk result (λ rest. (self.new.key ≡ self.old.key) × IsWithin (change_of self.new)
+            × (kind ≡ kind_byte (entry_of self.new.kind self.new.value))
+            × (bytes.now ≡ entry_bytes (entry_of self.new.kind self.new.value) ++ rest.now)) }
+    {
+        match kind {
+            0 => {
+                self.kind = Kind::Removed;
+                Ok(bytes)
+            }
+            1 => {
+                self.kind = Kind::Lasting;
+                read_value(&mut self.value, bytes)
+            }
+            2 => {
+                let (deadline, rest) = first_u64(bytes)?;
+                self.kind = Kind::Until(deadline);
+                read_value(&mut self.value, rest)
+            }
+            _ => Err(KeepFault::Damaged),
+        }
+    }
+}
+
+/// Reads the length of a value and the value, and returns the bytes after them. `TooLong` if it has more than 1,024 bytes; `Damaged` if
+/// there are too few bytes.
+fn read_value<'a>(value: &mut Value, bytes: &'a [u8]) -> Result<&'a [u8], KeepFault>
+    ensures { IfOk result (λ rest. (length value.new ≤ VALUE_BYTES)
+        × (bytes.now ≡ (to_le_bytes w32 (length value.new) ++ value.new) ++ rest.now)) }
+{
+    let (length, rest) = first_u32(bytes)?;
+    let length = length as usize;
+    if length > VALUE_BYTES {
+        return Err(KeepFault::TooLong);
+    }
+    let (read, rest) = first_bytes(rest, length)?;
+    value.set_from(read);
+    Ok(rest)
+}
+
+/// Splits off the first `count` bytes. `Damaged` if there are fewer.
+fn first_bytes(bytes: &[u8], count: usize) -> Result<(&[u8], &[u8]), KeepFault>
+    ensures { IfOk result (λ parts. (length parts.0.now ≡ count) × (bytes.now ≡ parts.0.now ++ parts.1.now)) }
+{
+    bytes.split_at_checked(count).ok_or(KeepFault::Damaged)
+}
+
+/// Splits off a byte. `Damaged` if there is none.
+fn first_byte(bytes: &[u8]) -> Result<(u8, &[u8]), KeepFault>
+    ensures { IfOk result (λ parts. bytes.now ≡ parts.0 ∷ parts.1.now) }
+{
+    match bytes.split_first() {
+        Some((first, rest)) => Ok((*first, rest)),
+        None => Err(KeepFault::Damaged),
+    }
+}
+
+/// Splits off a number of 32 bits. `Damaged` if there are fewer than four bytes.
+fn first_u32(bytes: &[u8]) -> Result<(u32, &[u8]), KeepFault>
+    ensures { IfOk result (λ parts. bytes.now ≡ to_le_bytes w32 parts.0 ++ parts.1.now) }
+{
+    match bytes.split_first_chunk::<4>() {
+        Some((first, rest)) => Ok((u32::from_le_bytes(*first), rest)),
+        None => Err(KeepFault::Damaged),
+    }
+}
+
+/// Splits off a number of 64 bits. `Damaged` if there are fewer than eight bytes.
+fn first_u64(bytes: &[u8]) -> Result<(u64, &[u8]), KeepFault>
+    ensures { IfOk result (λ parts. bytes.now ≡ to_le_bytes w64 parts.0 ++ parts.1.now) }
+{
+    match bytes.split_first_chunk::<8>() {
+        Some((first, rest)) => Ok((u64::from_le_bytes(*first), rest)),
+        None => Err(KeepFault::Damaged),
+    }
+}
+
+/// Changes of one stripe, as the bytes of a batch. After a fault it holds part of a change: then clear it.
+#[derive(Drop)]
+pub struct Batch {
+    bytes: Vec<u8>,
+}
+
+impl Batch {
+    /// Makes one without changes.
+    pub fn new(alloc: Global) -> Batch
+        ensures { result.bytes.items ≡ [] }
+    {
+        Batch {
+            bytes: Vec::new(alloc),
+        }
+    }
+
+    /// Takes all changes out.
+    pub fn clear(&mut self)
+        ensures { self.new.bytes.items ≡ [] }
+    {
+        self.bytes.clear();
+    }
+
+    /// Returns its bytes.
+    pub fn as_slice(&self) -> &[u8]
+        ensures { result.now ≡ self.now.bytes.items }
+    {
+        self.bytes.as_slice()
+    }
+
+    /// Appends a change after which the key has this value, with a deadline or none. `TooLong` if the key has more than 64 bytes or the
+    /// value more than 1,024; `NoMemory` if a request for memory was refused.
+    pub fn put(&mut self, key: &[u8], value: &[u8], deadline: Option<u64>) -> Result<(), KeepFault>
+        ensures { OnOk result (IsWithin (key.now, Some (value.now, deadline))
+            × (self.new.bytes.items ≡ self.old.bytes.items ++ change_bytes (key.now, Some (value.now, deadline)))) }
+    {
+        match deadline {
+            None => self.push_key(key, 1)?,
+            Some(deadline) => {
+                self.push_key(key, 2)?;
+                self.push(&deadline.to_le_bytes())?;
+            }
+        }
+        self.push_value(value)
+    }
+
+    /// Appends a change after which the key has nothing. The faults of `put`.
+    pub fn remove(&mut self, key: &[u8]) -> Result<(), KeepFault>
+        ensures { OnOk result (IsWithin (key.now, None) × (self.new.bytes.items ≡ self.old.bytes.items ++ change_bytes (key.now, None))) }
+    {
+        self.push_key(key, 0)
+    }
+
+    /// Appends the length of a key, a byte that says what it has, and the key. `TooLong` if it has more than 64 bytes; `NoMemory` if a
+    /// request for memory was refused.
+    fn push_key(&mut self, key: &[u8], kind: u8) -> Result<(), KeepFault>
+        ensures { OnOk result ((length key.now ≤ KEY_BYTES) × (self.new.bytes.items ≡ self.old.bytes.items ++ (length key.now ∷ kind ∷ key.now))) }
+    {
+        if key.len() > KEY_BYTES {
+            return Err(KeepFault::TooLong);
+        }
+        self.push(&[key.len() as u8, kind])?;
+        self.push(key)
+    }
+
+    /// Appends the length of a value and the value. `TooLong` if it has more than 1,024 bytes; `NoMemory` if a request for memory was
+    /// refused.
+    fn push_value(&mut self, value: &[u8]) -> Result<(), KeepFault>
+        ensures { OnOk result ((length value.now ≤ VALUE_BYTES)
+            × (self.new.bytes.items ≡ self.old.bytes.items ++ (to_le_bytes w32 (length value.now) ++ value.now))) }
+    {
+        if value.len() > VALUE_BYTES {
+            return Err(KeepFault::TooLong);
+        }
+        let length = value.len() as u32;
+        self.push(&length.to_le_bytes())?;
+        self.push(value)
+    }
+
+    /// Appends these bytes. `NoMemory` if a request for memory was refused.
+    fn push(&mut self, bytes: &[u8]) -> Result<(), KeepFault>
+        ensures { OnOk result (self.new.bytes.items ≡ self.old.bytes.items ++ bytes.now) }
+    {
+        self.bytes
+            .extend_from_slice(bytes)
+            .map_err(|_| KeepFault::NoMemory)
+    }
+}
