@@ -1,19 +1,9 @@
--- What a pass handed out is what was handed out, if no other saves; and what a restore enters is what the file has.
-use Rattle.std.proofs.Common.{◌≡◌, ◌≢◌, ◌∙◌, ◌⊎◌, ℕ, zero, suc, ◌+◌, ◌^◌, ◌<◌, ◌||◌, eqb, Bool, true, false, cond, List, [], ◌∷◌, map, All, Option, Some, refl, sym, ap, subst, inl, inr, arith}
+-- What a pass handed out is what was handed out, if no other saves.
+use Rattle.std.proofs.Common.{◌≡◌, ◌∙◌, ℕ, suc, ◌<◌, ◌||◌, eqb, Bool, true, false, cond, List, [], ◌∷◌, refl, sym, ap, subst, inl, inr, arith}
 use Rattle.std.specs.FinMap as finite
 use Rattle.std.proofs.lemmas.Bool.Decides.{nat_tests}
-use Rattle.sqlite.specs.Order.{Row, column}
 use Rattle.sqlite.specs.State.{State}
-use Rattle.sqlite.specs.declared.types.Value.{Value}
-use Rattle.sqlite.specs.declared.types.Value.TheVariants.{Blob}
-use Rattle.sqlite_rules.specs.Lists.{Has}
-use Rattle.sqlite_rules.proofs.ProbeLemmas.{has_mapped, mapped_has}
 use Rattle.bins.specs.Table.{Table}
-use Rattle.kept_file.specs.Content.{HasTables}
-use Rattle.kept_file.specs.Reading.{row_of}
-use Rattle.kept_file.specs.Rows.{kept_number, number, entry_row}
-use Rattle.kept_file.specs.declared.entries.KeptEntry.{KeptEntry}
-use Rattle.kept_file.proofs.OtherLemmas.{shown_had, had_shown}
 use Rattle.stripe_rule.specs.declared.view.Event.{Event}
 use Rattle.stripe_rule.specs.declared.view.View.{View}
 use Rattle.stripe_rule.specs.Gains.{mine_of, seen_of}
@@ -23,8 +13,7 @@ use Rattle.bin_stripes.specs.Actions.{Action, called, scanned, replaced, saved}
 use Rattle.bin_stripes.specs.Histories.{Sound}
 use Rattle.bin_stripes.specs.Passes.{PassState, stripes_of}
 use Rattle.bin_stripes.specs.Saves.{kept_after, kept_from, kept_in}
-use Rattle.map_keeper.specs.Kept.{HasStripe, IsInStep, AreOfTable, EntersStripes, OnlySaves, HasContent}
-use Rattle.map_keeper.specs.Restores.{RestoresEntries}
+use Rattle.map_keeper.specs.Kept.{HasStripe, IsInStep, OnlySaves, HasContent}
 use Rattle.map_keeper.specs.Saves.{IsSave, IsWhole}
 
 -- ---- only this pass saves
@@ -86,36 +75,3 @@ content_of pass file n q k sound one only whole low step = elim (step.stripes k 
   | inl none ↦ absurd (let e : false ≡ true = none in cc)
   | inr had ↦ has_content pass file q k sound one only whole had
 ]
-
--- ---- what a restore enters
-
-same_key : (a b : ℕ) (k l v w : List ℕ) (d e : Option ℕ) → entry_row a k v d ≡ entry_row b l w e → (k ≡ l) × (v ≡ w)
-same_key a b k l v w d e same =
-    let key : ◌≡◌ {A = Value} (Blob k) (Blob l) = ap (λ (r : Row). column r 1) same in
-    let value : ◌≡◌ {A = Value} (Blob v) (Blob w) = ap (λ (r : Row). column r 2) same in
-    (cc, cc)
-
-same_stripe : (a b : ℕ) (k l v w : List ℕ) (d e : Option ℕ) → entry_row a k v d ≡ entry_row b l w e → a ≡ b
-same_stripe a b k l v w d e same = let first : number a ≡ number b = ap (λ (r : Row). column r 0) same in cc
-
-pub enters_stripes : (file : State) (wide : Bool) (now : ℕ) (old new : PassState) (count : ℕ) → HasTables file → RestoresEntries file wide now old new count → EntersStripes file now old new
-enters_stripes file wide now old new count tables restores =
-    let entries = restores.entries in
-    let rows = map row_of entries in
-    record {
-      entries = entries;
-      entered = restores.entered;
-      of_stripes = λ k table stripe. record {
-        sound = λ entry there place.
-            let row = stripe.only (row_of entry) (shown_had file rows (row_of entry) tables restores.are (mapped_has row_of entries entry there)) (ap number place) in
-            let same = same_key entry.stripe (kept_number k) entry.key row.key entry.value row.value entry.deadline row.deadline row.is in
-            ap (finite.get table) same.0 ∙ (row.present ∙ ap Some (sym same.1));
-        complete = λ key value found.
-            let had = stripe.has key value found in
-            let row = entry_row (kept_number k) key value had.0 in
-            let from = has_mapped row_of entries row (had_shown file rows row tables restores.are had.1) in
-            let entry = from.0 in
-            let same = same_key (kept_number k) entry.stripe key entry.key value entry.value had.0 entry.deadline from.2 in
-            (entry, from.1, sym (same_stripe (kept_number k) entry.stripe key entry.key value entry.value had.0 entry.deadline from.2), sym same.0, sym same.1);
-      };
-    }

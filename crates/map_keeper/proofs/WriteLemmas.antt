@@ -1,6 +1,7 @@
 -- Statements one after the other, and the rows that they are of.
-use Rattle.std.proofs.Common.{◌≡◌, ◌∙◌, ◌≢◌, ◌+◌, ◌<◌, ℕ, zero, suc, Bool, IsTrue, true, List, [], ◌∷◌, ◌++◌, map, take, length, Result, Ok, Err, OnOk, refl, sym, ap, subst, inl, inr, arith, add-one}
-use Rattle.std.proofs.lemmas.List.{append-nil, append_assoc, map-append, take_more}
+use Rattle.std.proofs.Common.{◌≡◌, ◌==◌, ◌∙◌, ◌≢◌, ◌+◌, ◌<◌, ℕ, zero, suc, Bool, All, IsTrue, true, if◌then◌else◌, List, [], ◌∷◌, ◌++◌, map, length, Result, Ok, Err, OnOk, refl, sym, ap, subst, inl, inr, arith, add-one, length-append}
+use Rattle.std.proofs.lemmas.Bool.Decides.{nat_tests}
+use Rattle.std.proofs.lemmas.List.{append-nil, append_assoc, map-append}
 use Rattle.std.proofs.lemmas.List.Elements.{All-nil, All-cons, All-append}
 use Rattle.sqlite.specs.Held.{Held, state}
 use Rattle.sqlite.specs.Store as store
@@ -13,19 +14,25 @@ use Rattle.stripe_rule.specs.declared.view.View.{View}
 use Rattle.stripe_rule.specs.Gains.{Keeps, seen_of, mine_of, own_event}
 use Rattle.noted_bins.specs.Rows.{Row, values_of}
 use Rattle.noted_bins.specs.Notes.{is_all}
-use Rattle.noted_bins.specs.Taking.{row_at}
 use Rattle.noted_bins.specs.declared.taken.Taken.{Taken}
 use Rattle.kept_file.specs.Saves.{Makes}
-use Rattle.kept_file.specs.Statements.{Statement}
+use Rattle.kept_file.specs.Statements.{Statement, appending, clearing}
+use Rattle.kept_file.specs.Changes.{IsWithin, change_bytes}
+use Rattle.kept_file.proofs.ChangeLemmas.{changes_bytes-more, changes_bytes-none}
 use Rattle.bin_stripes.specs.declared.ghost_action.GhostAction.{GhostAction}
-use Rattle.bin_stripes.specs.Actions.{saved}
+use Rattle.bin_stripes.specs.Actions.{Action, saved}
 use Rattle.bin_stripes.specs.Passes.{PassState}
 use Rattle.bin_stripes.specs.Saves.{SavesStripe as Saves}
 use Rattle.map_keeper.proofs.SaveLemmas.{same_or_not, below}
-use Rattle.map_keeper.specs.Written.{BeginsAnew, Round, action_of, statement_of, statements_of, statements_in, HandsOut, EndsWithOwn, IsSavedSince, IsOther, MakesAll, SavesStripe, SavesBelow, WouldSave, WritesAll, WritesOthers}
+use Rattle.map_keeper.specs.Written.{BeginsAnew, IsFit, Round, action_of, rows_of, statement_of, statements_of, statements_in, HandsOut, EndsWithOwn, IsSavedSince, IsOther, MakesAll, Pending, SavesStripe, SavesBelow, WouldSave, WritesAll, WritesOthers, WritesRound, WritesRows}
+
+-- a list of no length has nothing
+pub none_left : (bytes : List ℕ) → (length bytes == 0) ≡ true → bytes ≡ []
+none_left [] none = refl
+none_left (x ∷ bytes) none = absurd (let zero : length (x ∷ bytes) ≡ 0 = grind (arith, nat_tests) in omega (arith, zero))
 
 -- nothing was handed out yet
-pub hands_nothing : (anew : Bool) (v : View GhostAction) (k : ℕ) → HandsOut anew v v k []
+hands_nothing : (anew : Bool) (v : View GhostAction) (k : ℕ) → HandsOut anew v v k []
 hands_nothing anew v k = record {
   start = tt;
   events = [];
@@ -42,26 +49,30 @@ start_more anew [] round start first = first refl
 start_more anew (one ∷ more) round start first = start
 
 -- if no round came before, this one is the first
-pub is_first_round : (i n : ℕ) → (0 < i → 0 < n) → n ≡ 0 → i ≡ 0
+is_first_round : (i n : ℕ) → (0 < i → 0 < n) → n ≡ 0 → i ≡ 0
 is_first_round zero n later none = refl
 is_first_round (suc i) n later none = absurd (omega (arith, later (omega arith)))
 
+some_more : (rounds : List Round) (round : Round) → 0 < length (rounds ++ round ∷ [])
+some_more rounds round = omega (arith, length-append {A = Round})
+
 -- one round more, after which the last event is its own
-pub hands_more : (anew : Bool) (v : View GhostAction) (p : PassState) (k : ℕ) (rows : List Row) (taken : Taken) (q : PassState) (rounds : List Round)
+hands_more : (anew : Bool) (v : View GhostAction) (p : PassState) (k : ℕ) (rows : List Row) (taken : Taken) (q : PassState) (rounds : List Round) (round : Round)
     → HandsOut anew v p.view k rounds → Saves p k [] rows taken q → (length rounds ≡ 0 → IsTrue anew → is_all taken ≡ true)
-    → EndsWithOwn anew v q.view k (rounds ++ record { all = is_all taken; rows = rows } ∷ [])
-hands_more anew v p k rows taken q rounds hands saves first =
+    → round.all ≡ is_all taken → rows ≡ rows_of round.parts → EndsWithOwn anew v q.view k (rounds ++ round ∷ [])
+hands_more anew v p k rows taken q rounds round hands saves first is_so has_rows =
     let here = saves.makes.here in
     let event : Event GhostAction = own_event p.view (record { action = saved (is_all taken) (values_of saves.rows) }) in
     let own : List (Event GhostAction) = event ∷ [] in
-    let round : Round = record { all = is_all taken; rows = saves.rows } in
-    let ends : EndsWithOwn anew v q.view k (rounds ++ round ∷ []) = record {
+    let same : saved (is_all taken) (values_of saves.rows) ≡ action_of round = ap (λ (b : Bool). saved b (values_of saves.rows)) (sym is_so) ∙ ap (λ (l : List Row). saved round.all (values_of l)) (sym saves.added ∙ has_rows) in
+    record {
       handed = record {
-        start = start_more anew rounds round hands.start first;
+        start = start_more anew rounds round hands.start (λ none yes. is_so ∙ first none yes);
         events = hands.events ++ own;
         made = here.mine ∙ (ap (λ (l : List (Event GhostAction)). l ++ own) hands.made ∙ append_assoc (mine_of v k) hands.events own);
         actions = map-append (λ (e : Event GhostAction). e.action.action) hands.events own
-            ∙ (ap (λ l. l ++ action_of round ∷ []) hands.actions ∙ sym (map-append action_of rounds (round ∷ [])));
+            ∙ (ap (λ l. l ++ saved (is_all taken) (values_of saves.rows) ∷ []) hands.actions
+            ∙ (ap (λ (action : Action). map action_of rounds ++ action ∷ []) same ∙ sym (map-append action_of rounds (round ∷ []))));
         more = (hands.more ++ here.between) ++ own;
         seen = here.seen ∙ (ap (λ (l : List (Event GhostAction)). (l ++ here.between) ++ own) hands.seen
             ∙ (ap (λ (l : List (Event GhostAction)). l ++ own) (append_assoc (seen_of v k) hands.more here.between)
@@ -72,8 +83,33 @@ hands_more anew v p k rows taken q rounds hands saves first =
       last = event;
       mine = refl;
       seen = refl;
-    } in
-    subst (λ (l : List Row). EndsWithOwn anew v q.view k (rounds ++ record { all = is_all taken; rows = l } ∷ [])) (sym saves.added) ends
+    }
+
+-- the rounds of the stripe k since then
+pub record Handed (anew : Bool) (v w : View GhostAction) (k i : ℕ) : Type 0 where
+  pub rounds : List Round
+  pub hands : HandsOut anew v w k rounds
+  pub later : 0 < i → 0 < length rounds
+
+pub handed_none : (anew : Bool) (v : View GhostAction) (k : ℕ) → Handed anew v v k 0
+handed_none anew v k = record { rounds = []; hands = hands_nothing anew v k; later = λ low. absurd (omega (arith, low)) }
+
+-- one more, after which the last event is its own
+pub handed_more : (anew : Bool) (v : View GhostAction) (p : PassState) (k i : ℕ) (rows : List Row) (taken : Taken) (q : PassState) → Handed anew v p.view k i
+    → Saves p k [] rows taken q → (i ≡ 0 → IsTrue anew → is_all taken ≡ true) → IsSavedSince anew v q.view k
+handed_more anew v p k i rows taken q handed saves first =
+    let round : Round = record { all = is_all taken; parts = rows ∷ [] } in (
+      handed.rounds ++ round ∷ [],
+      hands_more anew v p k rows taken q handed.rounds round handed.hands saves (λ none yes. first (is_first_round i (length handed.rounds) handed.later none) yes) refl (sym (append-nil rows)),
+    )
+
+-- .. and not the last one
+pub handed_on : (anew : Bool) (v : View GhostAction) (p : PassState) (k i : ℕ) (rows : List Row) (taken : Taken) (q : PassState) → Handed anew v p.view k i
+    → Saves p k [] rows taken q → (i ≡ 0 → IsTrue anew → is_all taken ≡ true) → Handed anew v q.view k (i + 1)
+handed_on anew v p k i rows taken q handed saves first =
+    let round : Round = record { all = is_all taken; parts = rows ∷ [] } in
+    let ends = hands_more anew v p k rows taken q handed.rounds round handed.hands saves (λ none yes. first (is_first_round i (length handed.rounds) handed.later none) yes) refl (sym (append-nil rows)) in
+    record { rounds = handed.rounds ++ round ∷ []; hands = ends.handed; later = λ low. some_more handed.rounds round }
 
 -- what was handed out of a stripe stays so if the pass then learns nothing of it
 pub ends_kept : (anew : Bool) (v u w : View GhostAction) (k : ℕ) (rounds : List Round) → EndsWithOwn anew v u k rounds → Keeps u w k → EndsWithOwn anew v w k rounds
@@ -164,32 +200,130 @@ module _ {S : Type 0} (shown : Held S → State) where
 
   pub makes_then : (xs ys : List Statement) (a b c : Held S) → MakesAll shown xs a b → MakesAll shown ys b c → MakesAll shown (xs ++ ys) a c
   unfolding MakesAll
-  makes_then [] ys a b c same then = subst (λ (h : Held S). MakesAll shown ys h c) same then
-  makes_then (x ∷ xs) ys a b c one then = (one.0, one.1, makes_then xs ys one.0 b c one.2 then)
+  makes_then [] ys a b c same after = subst (λ (h : Held S). MakesAll shown ys h c) same after
+  makes_then (x ∷ xs) ys a b c one after = (one.0, one.1, makes_then xs ys one.0 b c one.2 after)
 
   -- one round more
   pub makes_round : (k : ℕ) (rounds : List Round) (round : Round) (a b c : Held S) → MakesAll shown (statements_in k rounds) a b
       → MakesAll shown (statements_of k round) b c → MakesAll shown (statements_in k (rounds ++ round ∷ [])) a c
-  makes_round k rounds round a b c first then =
+  makes_round k rounds round a b c first after =
       subst (λ (l : List Statement). MakesAll shown l a c) (sym (statements_in-more k rounds round))
-      (makes_then (statements_in k rounds) (statements_of k round) a b c first then)
+      (makes_then (statements_in k rounds) (statements_of k round) a b c first after)
+
+  -- the statements of one part more
+  pub makes_part : (k : ℕ) (parts : List (List Row)) (part : List Row) (a b c : Held S) → MakesAll shown (map (statement_of k) parts) a b
+      → Makes (statement_of k part).0 (statement_of k part).1 (shown b) (shown c) → MakesAll shown (map (statement_of k) (parts ++ part ∷ [])) a c
+  makes_part k parts part a b c before made =
+      subst (λ (l : List Statement). MakesAll shown l a c) (sym (map-append (statement_of k) parts (part ∷ [])))
+      (makes_then (map (statement_of k) parts) (statement_of k part ∷ []) a b c before (makes_one (statement_of k part) b c made))
+
+  -- ---- rows that are written in parts
+
+  pub pending_none : (k : ℕ) (bytes : List ℕ) (a : Held S) → bytes ≡ [] → Pending shown k [] bytes a a
+  pending_none k bytes a none = record {
+    parts = [];
+    left = [];
+    within = All-nil (All IsWithin);
+    left_within = All-nil IsWithin;
+    are = refl;
+    bytes_are = none;
+    made = makes_none a;
+  }
 
   -- one row more
-  pub makes_row : (k : ℕ) (rows : List Row) (i : ℕ) (a b c : Held S) → i < length rows → MakesAll shown (map (statement_of k) (take i rows)) a b
-      → Makes (statement_of k (row_at rows i)).0 (statement_of k (row_at rows i)).1 (shown b) (shown c)
-      → MakesAll shown (map (statement_of k) (take (i + 1) rows)) a c
-  makes_row k rows i a b c low before made =
-      let row : Row = row_at rows i in
-      let split : map (statement_of k) (take (i + 1) rows) ≡ map (statement_of k) (take i rows) ++ statement_of k row ∷ [] =
-      ap (map (statement_of k)) (take_more rows i _ low) ∙ map-append (statement_of k) (take i rows) (row ∷ []) in
-      subst (λ (l : List Statement). MakesAll shown l a c) (sym split)
-      (makes_then (map (statement_of k) (take i rows)) (statement_of k row ∷ []) a b c before (makes_one (statement_of k row) b c made))
+  pub pending_more : (k : ℕ) (rows : List Row) (row : Row) (bytes more : List ℕ) (a b : Held S) → Pending shown k rows bytes a b → IsWithin row → more ≡ bytes ++ change_bytes row
+      → Pending shown k (rows ++ row ∷ []) more a b
+  pending_more k rows row bytes more a b pending within is = record {
+    parts = pending.parts;
+    left = pending.left ++ row ∷ [];
+    within = pending.within;
+    left_within = All-append IsWithin pending.left (row ∷ []) pending.left_within (All-cons IsWithin row [] within (All-nil IsWithin));
+    are = ap (λ (l : List Row). l ++ row ∷ []) pending.are ∙ append_assoc (rows_of pending.parts) pending.left (row ∷ []);
+    bytes_are = is ∙ (ap (λ l. l ++ change_bytes row) pending.bytes_are ∙ sym (changes_bytes-more pending.left row));
+    made = pending.made;
+  }
+
+  rows_of-more : (parts : List (List Row)) (part : List Row) → rows_of (parts ++ part ∷ []) ≡ rows_of parts ++ part
+  rows_of-more [] part = append-nil part
+  rows_of-more (first ∷ parts) part = ap (λ (l : List Row). first ++ l) (rows_of-more parts part) ∙ sym (append_assoc first (rows_of parts) part)
+
+  -- what is pending is written
+  pub pending_written : (k : ℕ) (rows : List Row) (bytes : List ℕ) (a b c : Held S) → Pending shown k rows bytes a b → Makes (appending k bytes).0 (appending k bytes).1 (shown b) (shown c)
+      → WritesRows shown k rows a c
+  pending_written k rows bytes a b c pending made = record {
+    parts = pending.parts ++ pending.left ∷ [];
+    within = All-append (All IsWithin) pending.parts (pending.left ∷ []) pending.within (All-cons (All IsWithin) pending.left [] pending.left_within (All-nil (All IsWithin)));
+    are = pending.are ∙ sym (rows_of-more pending.parts pending.left);
+    made = makes_part k pending.parts pending.left a b c pending.made (subst (λ l. Makes (appending k l).0 (appending k l).1 (shown b) (shown c)) pending.bytes_are made);
+  }
+
+  -- .. and nothing is pending
+  pub written_pending : (k : ℕ) (rows : List Row) (bytes : List ℕ) (a b : Held S) → WritesRows shown k rows a b → bytes ≡ [] → Pending shown k rows bytes a b
+  written_pending k rows bytes a b writes none = record {
+    parts = writes.parts;
+    left = [];
+    within = writes.within;
+    left_within = All-nil IsWithin;
+    are = writes.are ∙ sym (append-nil (rows_of writes.parts));
+    bytes_are = none;
+    made = writes.made;
+  }
+
+  -- if nothing is pending, all is written
+  pub pending_all : (k : ℕ) (rows : List Row) (bytes : List ℕ) (a b : Held S) → Pending shown k rows bytes a b → bytes ≡ [] → WritesRows shown k rows a b
+  pending_all k rows bytes a b pending none =
+      let nothing : pending.left ≡ [] = changes_bytes-none pending.left (sym pending.bytes_are ∙ none) in
+      record {
+        parts = pending.parts;
+        within = pending.within;
+        are = pending.are ∙ (ap (λ (l : List Row). rows_of pending.parts ++ l) nothing ∙ append-nil (rows_of pending.parts));
+        made = pending.made;
+      }
+
+  -- the round of rows that were written
+  abbrev pub round_of : (k : ℕ) (all : Bool) (rows : List Row) (a b : Held S) → WritesRound shown k all rows a b → Round
+  round_of k all rows a b writes = record { all = all; parts = writes.rest.parts }
+
+  -- its statements were made
+  round_made : (k : ℕ) (all : Bool) (rows : List Row) (a b : Held S) (writes : WritesRound shown k all rows a b) → MakesAll shown (statements_of k (round_of k all rows a b writes)) a b
+  round_made k all rows a b writes = makes_then (if all then clearing k ∷ [] else []) (map (statement_of k) writes.rest.parts) a writes.mid b writes.start writes.rest.made
+
+  -- rounds of the stripe k since then, whose statements were made
+  pub record Wrote (anew : Bool) (v w : View GhostAction) (k i : ℕ) (a b : Held S) : Type 0 where
+    pub rounds : List Round
+    pub hands : HandsOut anew v w k rounds
+    pub later : 0 < i → 0 < length rounds
+    pub fit : All IsFit rounds
+    pub made : MakesAll shown (statements_in k rounds) a b
+
+  pub wrote_none : (anew : Bool) (v : View GhostAction) (k : ℕ) (a : Held S) → Wrote anew v v k 0 a a
+  wrote_none anew v k a = record { rounds = []; hands = hands_nothing anew v k; later = λ low. absurd (omega (arith, low)); fit = All-nil IsFit; made = makes_none a }
+
+  -- one round more, after which the last event is its own
+  pub wrote_more : (anew : Bool) (v : View GhostAction) (p : PassState) (k i : ℕ) (rows : List Row) (taken : Taken) (q : PassState) (a b c : Held S) → Wrote anew v p.view k i a b
+      → Saves p k [] rows taken q → (i ≡ 0 → IsTrue anew → is_all taken ≡ true) → WritesRound shown k (is_all taken) rows b c → SavesStripe shown anew v q.view k a c
+  wrote_more anew v p k i rows taken q a b c wrote saves first writes =
+      let round = round_of k (is_all taken) rows b c writes in
+      record {
+        rounds = wrote.rounds ++ round ∷ [];
+        ends = hands_more anew v p k rows taken q wrote.rounds round wrote.hands saves (λ none yes. first (is_first_round i (length wrote.rounds) wrote.later none) yes) refl writes.rest.are;
+        fit = All-append IsFit wrote.rounds (round ∷ []) wrote.fit (All-cons IsFit round [] writes.rest.within (All-nil IsFit));
+        made = makes_round k wrote.rounds round a b c wrote.made (round_made k (is_all taken) rows b c writes);
+      }
+
+  -- .. and not the last one
+  pub wrote_on : (anew : Bool) (v : View GhostAction) (p : PassState) (k i : ℕ) (rows : List Row) (taken : Taken) (q : PassState) (a b c : Held S) → Wrote anew v p.view k i a b
+      → Saves p k [] rows taken q → (i ≡ 0 → IsTrue anew → is_all taken ≡ true) → WritesRound shown k (is_all taken) rows b c → Wrote anew v q.view k (i + 1) a c
+  unfolding wrote_more
+  wrote_on anew v p k i rows taken q a b c wrote saves first writes =
+      let more = wrote_more anew v p k i rows taken q a b c wrote saves first writes in
+      record { rounds = more.rounds; hands = more.ends.handed; later = λ low. some_more wrote.rounds (round_of k (is_all taken) rows b c writes); fit = more.fit; made = more.made }
 
   pub stripe_kept : (anew : Bool) (v u w : View GhostAction) (k : ℕ) (a b : Held S) → SavesStripe shown anew v u k a b → Keeps u w k → SavesStripe shown anew v w k a b
-  stripe_kept anew v u w k a b saves keeps = record { rounds = saves.rounds; ends = ends_kept anew v u w k saves.rounds saves.ends keeps; made = saves.made }
+  stripe_kept anew v u w k a b saves keeps = record { rounds = saves.rounds; ends = ends_kept anew v u w k saves.rounds saves.ends keeps; fit = saves.fit; made = saves.made }
 
   pub stripe_after : (anew : Bool) (v u w : View GhostAction) (k : ℕ) (a b : Held S) → Keeps v u k → SavesStripe shown anew u w k a b → SavesStripe shown anew v w k a b
-  stripe_after anew v u w k a b keeps saves = record { rounds = saves.rounds; ends = ends_after anew v u w k saves.rounds keeps saves.ends; made = saves.made }
+  stripe_after anew v u w k a b keeps saves = record { rounds = saves.rounds; ends = ends_after anew v u w k saves.rounds keeps saves.ends; fit = saves.fit; made = saves.made }
 
   pub below_none : (anew : Bool) (v : View GhostAction) (a : Held S) → SavesBelow shown anew v v 0 a a
   unfolding SavesBelow

@@ -1,8 +1,10 @@
 -- What a file has comes back into a map, its programs and its scripts.
-use Rattle.std.specs.Prelude.{◌≡◌, ℕ, Bool, not, List, [], ◌∷◌, length, count_by, All, MatchBool, Option, Some, None, IsTrue, ⊤}
+use Rattle.std.specs.Prelude.{◌≡◌, ℕ, zero, suc, ◌+◌, Bool, if◌then◌else◌, List, [], ◌∷◌, ◌++◌, map, length, All, Option, Some, None, IsTrue, ⊤}
+use Rattle.sqlite.specs.Order.{Row, column}
 use Rattle.sqlite.specs.State.{State}
+use Rattle.sqlite.specs.declared.types.Value.TheVariants.{Blob}
 use Rattle.atomic_methods.specs.Hashes.{stripe_of}
-use Rattle.atomic_methods.specs.Invocations.{Invocation, on_key, put}
+use Rattle.atomic_methods.specs.Invocations.{Invocation, on_key, put, remove}
 use Rattle.timed_bins.specs.Deadlines.{is_over}
 use Rattle.timed_bins.specs.declared.timing.DeadlineChange.{DeadlineChange}
 use Rattle.timed_bins.specs.declared.timing.DeadlineChange.TheVariants.{Clear, Set}
@@ -11,12 +13,15 @@ use Rattle.timed_bins.specs.declared.timing.TimedReply.{TimedReply}
 use Rattle.timed_bins.specs.declared.timing.Timing.{Timing}
 use Rattle.bin_stripes.specs.Passes.{PassState, stripes_of}
 use Rattle.bin_stripes.specs.Timed.{CallsAt}
+use Rattle.bin_stripes.specs.Invoked.{CountsStripe}
 use Rattle.program_registry.specs.Tokens.{IsOf, program_of, token_number}
 use Rattle.program_registry.specs.declared.registry.ProgramToken.{ProgramToken}
 use Rattle.program_registry.specs.declared.registry.Registry.{Registry}
 use Rattle.admission.specs.Admissions.{IsAdmitted}
-use Rattle.kept_file.specs.Reading.{HasEntries, HasPrograms, HasScripts}
-use Rattle.kept_file.specs.declared.entries.KeptEntry.{KeptEntry}
+use Rattle.kept_file.specs.Changes.{Change, Entry, Spells, entry_of}
+use Rattle.kept_file.specs.declared.changes.Kind.{Kind}
+use Rattle.kept_file.specs.Reading.{HasPrograms, HasScripts, RisesTo, ShowsBatches}
+use Rattle.kept_file.specs.Rows.{number}
 use Rattle.kept_file.specs.declared.rows.KeptProgram.{KeptProgram}
 
 -- the key has this deadline, or none
@@ -24,45 +29,90 @@ abbrev pub change_to : Option ℕ → DeadlineChange
 change_to None = Clear
 change_to (Some at) = Set at Always
 
--- the entry comes at this time, and its key has the deadline that it had
-abbrev pub timing_of : KeptEntry → ℕ → Timing
-timing_of entry now = record { now = now; change = change_to entry.deadline }
+-- what a key has at this time: nothing, if its time is over
+abbrev pub left_at : ℕ → Entry → Entry
+left_at now None = None
+left_at now (Some entry) = if is_over entry.1 now then None else Some entry
 
--- its key has the value that it had
-abbrev pub put_of : KeptEntry → Invocation
-put_of entry = on_key entry.key (put entry.value)
+-- the call that gives a key what it has
+abbrev pub call_of : List ℕ → Entry → Invocation
+call_of key None = on_key key remove
+call_of key (Some entry) = on_key key (put entry.0)
 
--- if the entry's time is not over
-abbrev pub has_time : ℕ → KeptEntry → Bool
-has_time now entry = not (is_over entry.deadline now)
+-- .. at this time, with its deadline
+abbrev pub timing_of : ℕ → Entry → Timing
+timing_of now None = record { now = now; change = Clear }
+timing_of now (Some entry) = record { now = now; change = change_to entry.1 }
 
--- the pass made one Put of the entry at this time, with its deadline
-pub record Puts (now : ℕ) (entry : KeptEntry) (old new : PassState) : Type 0 where
+-- the key has this value then, and its deadline is changed so
+abbrev pub IsLeft : Kind → ℕ → List ℕ → DeadlineChange → Type 0
+IsLeft kind now value change = (deadline : Option ℕ) × (left_at now (entry_of kind value) ≡ Some (value, deadline)) × (change ≡ change_to deadline)
+
+-- the pass made one call at a time
+pub record CallsOnce (timing : Timing) (invocation : Invocation) (old new : PassState) : Type 0 where
   pub timed : TimedReply
   pub reply : List ℕ
-  pub calls : CallsAt old (timing_of entry now) (put_of entry) timed reply new
+  pub calls : CallsAt old timing invocation timed reply new
 
--- .. if the entry's time is not over; else it did nothing
-abbrev pub Enters : ℕ → KeptEntry → PassState → PassState → Type 0
-Enters now entry old new = MatchBool (has_time now entry) (Puts now entry old new) (new ≡ old)
+-- .. after which the key has what the change has left of it at this time
+abbrev pub Replays : ℕ → Change → PassState → PassState → Type 0
+Replays now change = CallsOnce (timing_of now (left_at now change.1)) (call_of change.0 (left_at now change.1))
 
--- .. of one entry after the other, each once, and it did nothing else
-unfoldable pub EntersAll : ℕ → List KeptEntry → PassState → PassState → Type 0
-EntersAll now [] old new = new ≡ old
-EntersAll now (entry ∷ entries) old new = (mid : PassState) × Enters now entry old mid × EntersAll now entries mid new
+-- .. of one change after the other, and it did nothing else
+unfoldable pub ReplaysAll : ℕ → List Change → PassState → PassState → Type 0
+ReplaysAll now [] old new = new ≡ old
+ReplaysAll now (change ∷ changes) old new = (mid : PassState) × Replays now change old mid × ReplaysAll now changes mid new
 
--- each entry is in the stripe of its key, in a map of so many
-abbrev pub AreInPlace : ℕ → List KeptEntry → Type 0
-AreInPlace stripes entries = All (λ (entry : KeptEntry). entry.stripe ≡ stripe_of stripes entry.key) entries
+-- a change of a stripe
+abbrev pub StripeChange : Type 0
+StripeChange = ℕ × Change
 
--- at this time the pass entered just the entries that the file has and whose time is not over, which are so many. If the map is as
--- wide as the one that was saved, each was in the stripe of its key
+-- a batch's changes, each with the batch's stripe
+abbrev pub with_stripe : ℕ → List Change → List StripeChange
+with_stripe stripe changes = map (λ (change : Change). (stripe, change)) changes
+
+-- without their stripes
+abbrev pub changes_in : List StripeChange → List Change
+changes_in all = map (λ (it : StripeChange). it.1) all
+
+-- these are the changes of all the batches, one after the other
+unfoldable pub AreSpelled : List Row → List StripeChange → Type 0
+AreSpelled [] all = all ≡ []
+AreSpelled (batch ∷ batches) all = (stripe : ℕ) × (bytes : List ℕ) × (first : List Change) × (more : List StripeChange)
+    × (column batch 1 ≡ number stripe) × (column batch 2 ≡ Blob bytes) × Spells bytes first × (all ≡ with_stripe stripe first ++ more) × AreSpelled batches more
+
+-- each change is in the stripe of its key, in a map of so many
+abbrev pub AreInPlace : ℕ → List StripeChange → Type 0
+AreInPlace stripes all = All (λ (it : StripeChange). it.0 ≡ stripe_of stripes it.1.0) all
+
+-- the pass made just the changes of one batch at this time, in their order
+pub record ReplaysBatch (is_as_wide : Bool) (now stripe : ℕ) (bytes : List ℕ) (old new : PassState) : Type 0 where
+  pub changes : List Change
+  pub spelled : Spells bytes changes
+  pub in_place : IsTrue is_as_wide → AreInPlace (stripes_of old.map) (with_stripe stripe changes)
+  pub replayed : ReplaysAll now changes old new
+
+-- .. of all batches that the file has. If the map is as wide as the one that was saved, each change was in the stripe of its key
+pub record ReplaysFile (file : State) (is_as_wide : Bool) (now : ℕ) (old new : PassState) : Type 0 where
+  pub batches : List Row
+  pub last : ℕ
+  pub are : ShowsBatches file batches
+  pub rise : RisesTo batches last
+  pub changes : List StripeChange
+  pub spelled : AreSpelled batches changes
+  pub in_place : IsTrue is_as_wide → AreInPlace (stripes_of old.map) changes
+  pub replayed : ReplaysAll now (changes_in changes) old new
+
+-- the pass counted the stripes below n, one after the other; they had so many entries in all
+unfoldable pub CountsBelow : ℕ → PassState → PassState → ℕ → Type 0
+CountsBelow zero old new count = (new ≡ old) × (count ≡ 0)
+CountsBelow (suc n) old new count = (mid : PassState) × (below : ℕ) × (here : ℕ) × CountsBelow n old mid below × CountsStripe mid n here new × (count ≡ below + here)
+
+-- at this time the pass made just the changes that the file has, and then counted the entries of the map
 pub record RestoresEntries (file : State) (is_as_wide : Bool) (now : ℕ) (old new : PassState) (count : ℕ) : Type 0 where
-  pub entries : List KeptEntry
-  pub are : HasEntries file entries
-  pub in_place : IsTrue is_as_wide → AreInPlace (stripes_of old.map) entries
-  pub entered : EntersAll now entries old new
-  pub counted : count ≡ count_by (has_time now) entries
+  pub mid : PassState
+  pub replayed : ReplaysFile file is_as_wide now old mid
+  pub counted : CountsBelow (stripes_of old.map) mid new count
 
 -- the token is of this registry, and names the program of a file by the number that it had: the program that the file's bytes spell,
 -- verified with the file's sizes

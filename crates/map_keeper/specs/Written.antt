@@ -1,39 +1,42 @@
 -- What a save writes into its file: the statements that the rows ask for which it hands out.
-use Rattle.std.specs.Prelude.{◌≡◌, ◌⊎◌, ℕ, zero, suc, ◌≤◌, Bool, if◌then◌else◌, List, [], ◌∷◌, ◌++◌, map, Some, None, All, IsTrue, true, false, ⊤}
+use Rattle.std.specs.Prelude.{◌≡◌, ◌⊎◌, ℕ, zero, suc, ◌≤◌, Bool, if◌then◌else◌, List, [], ◌∷◌, ◌++◌, map, flat_map, All, IsTrue, true, false, ⊤}
 use Rattle.sqlite.specs.Held.{Held}
 use Rattle.sqlite.specs.State.{State, Shows}
 use Rattle.sqlite.specs.Tree.{Trees}
 use Rattle.bpf_model.specs.declared.input.Sizes.{Sizes}
+use Rattle.kept_file.specs.Changes.{IsWithin, changes_bytes}
 use Rattle.kept_file.specs.Saves.{Makes}
-use Rattle.kept_file.specs.Statements.{Statement, clearing, putting, removing, noting_stripes, adding_script, adding_program}
+use Rattle.kept_file.specs.Statements.{Statement, appending, clearing, noting_stripes, adding_script, adding_program}
 use Rattle.stripe_rule.specs.declared.view.Event.{Event}
 use Rattle.stripe_rule.specs.declared.view.View.{View}
 use Rattle.stripe_rule.specs.Gains.{seen_of, mine_of}
-use Rattle.noted_bins.specs.Rows.{Row, Saved, values_of}
+use Rattle.noted_bins.specs.Rows.{Row, values_of}
 use Rattle.bin_stripes.specs.declared.ghost_action.GhostAction.{GhostAction}
 use Rattle.bin_stripes.specs.Actions.{Action, saved}
 
--- what a key of the stripe k has comes into the file, with its deadline; if it has nothing, what the file has of it goes
-abbrev pub entering : ℕ → List ℕ → Saved → Statement
-entering k key None = removing k key
-entering k key (Some entry) = putting k key entry.0 entry.1
+-- the statement of one batch of rows
+abbrev pub statement_of : ℕ → List Row → Statement
+statement_of k part = appending k (changes_bytes part)
 
--- the statement of a row
-abbrev pub statement_of : ℕ → Row → Statement
-statement_of k row = entering k row.0 row.1
-
--- what was handed out of a stripe in one hold of it: these rows; if `all`, of all its entries
+-- what was handed out of a stripe in one hold of it: rows, in parts that each make a batch; if `all`, of all its entries
 pub record Round : Type 0 where
   pub all : Bool
-  pub rows : List Row
+  pub parts : List (List Row)
+
+-- each key and value of the round is as long as a file has them
+abbrev pub IsFit : Round → Type 0
+IsFit round = All (All IsWithin) round.parts
+
+abbrev pub rows_of : List (List Row) → List Row
+rows_of parts = flat_map (λ part. part) parts
 
 -- the action of a pass that handed them out
 abbrev pub action_of : Round → Action
-action_of round = saved round.all (values_of round.rows)
+action_of round = saved round.all (values_of (rows_of round.parts))
 
 -- the statements of a round: if it has all entries of the stripe, what the file has of it goes first
 abbrev pub statements_of : ℕ → Round → List Statement
-statements_of k round = (if round.all then clearing k ∷ [] else []) ++ map (statement_of k) round.rows
+statements_of k round = (if round.all then clearing k ∷ [] else []) ++ map (statement_of k) round.parts
 
 -- .. of one round after the other
 abbrev pub statements_in : ℕ → List Round → List Statement
@@ -86,10 +89,34 @@ module _ {S : Type 0} (shown : Held S → State) where
   MakesAll [] old new = new ≡ old
   MakesAll (statement ∷ more) old new = (mid : Held S) × Makes statement.0 statement.1 (shown old) (shown mid) × MakesAll more mid new
 
+  -- the statements of these rows were made, of one part after the other
+  pub record WritesRows (k : ℕ) (rows : List Row) (from to : Held S) : Type 0 where
+    pub parts : List (List Row)
+    pub within : All (All IsWithin) parts
+    pub are : rows ≡ rows_of parts
+    pub made : MakesAll (map (statement_of k) parts) from to
+
+  -- .. of the first of them; the others are in a batch that has these bytes and is not written yet
+  pub record Pending (k : ℕ) (rows : List Row) (bytes : List ℕ) (from to : Held S) : Type 0 where
+    pub parts : List (List Row)
+    pub left : List Row
+    pub within : All (All IsWithin) parts
+    pub left_within : All IsWithin left
+    pub are : rows ≡ rows_of parts ++ left
+    pub bytes_are : bytes ≡ changes_bytes left
+    pub made : MakesAll (map (statement_of k) parts) from to
+
+  -- the statements of all the rows were made; if they are all entries of the stripe, what the file had of it went first
+  pub record WritesRound (k : ℕ) (all : Bool) (rows : List Row) (from to : Held S) : Type 0 where
+    pub mid : Held S
+    pub start : MakesAll (if all then clearing k ∷ [] else []) from mid
+    pub rest : WritesRows k rows mid to
+
   -- the pass saved the stripe k, and the statements of just the rows that it handed out were made
   pub record SavesStripe (anew : Bool) (old new : View GhostAction) (k : ℕ) (from to : Held S) : Type 0 where
     pub rounds : List Round
     pub ends : EndsWithOwn anew old new k rounds
+    pub fit : All IsFit rounds
     pub made : MakesAll (statements_in k rounds) from to
 
   -- .. each stripe below n, in their order

@@ -12,7 +12,7 @@ ghost use Rattle.map_keeper.specs.Written.{IsSavedSince, SavesMap, WouldSave};
 use crate::fault::RestoreFault;
 use crate::taker::Taker;
 use bin_stripes::{Pass, StripedMap};
-use kept_file::{KeepFault, KeptFile, OnDisk};
+use kept_file::{Batch, KeepFault, KeptFile, OnDisk};
 use noted_bins::Changes;
 use program_registry::Registry;
 use redis_scripts::Scripts;
@@ -37,6 +37,39 @@ pub(crate) struct InFile {
     pub(crate) scripts: usize,
 }
 
+/// Beyond so many changes a file may be taken for long.
+const FEW: u64 = 1 << 16;
+
+/// How many changes the file's batches have.
+#[derive(Clone, Copy, Debug, Default, PartialEq, Eq)]
+struct LogLength {
+    /// Those that the last save wrote that took every stripe anew.
+    anew: u64,
+    /// Those that came after it.
+    since: u64,
+}
+
+impl LogLength {
+    /// The length after a save that wrote so many rows.
+    fn after(self, rows: u64, takes_anew: bool) -> LogLength {
+        if takes_anew {
+            return LogLength {
+                anew: rows,
+                since: 0,
+            };
+        }
+        LogLength {
+            anew: self.anew,
+            since: self.since.saturating_add(rows),
+        }
+    }
+
+    /// Tests whether more changes came since all was taken anew than there were entries then.
+    fn is_long(self) -> bool {
+        self.since > FEW && self.since > self.anew
+    }
+}
+
 /// What the file has, and whether a save takes every stripe anew.
 #[derive(Clone, Copy)]
 pub(crate) struct Had {
@@ -51,8 +84,9 @@ pub struct Keeper<S: Alter> {
     pub(crate) file: KeptFile<S>,
     pub(crate) taker: Taker,
     pub(crate) in_file: InFile,
-    /// Whether the next save takes every stripe anew: none came before it, or the last one failed.
+    /// Whether the next save takes every stripe anew: none came before it, the last one failed, or the file has got long.
     pub(crate) takes_anew: bool,
+    log: LogLength,
 }
 
 impl<S: Alter + Drop> Keeper<S> {
@@ -71,6 +105,8 @@ impl<S: Alter + Drop> Keeper<S> {
             taker: Taker {
                 pass,
                 changes: Changes::new(alloc),
+                batch: Batch::new(alloc),
+                rows: 0,
             },
             in_file: InFile {
                 stripes,
@@ -78,11 +114,12 @@ impl<S: Alter + Drop> Keeper<S> {
                 scripts: 0,
             },
             takes_anew: true,
+            log: LogLength::default(),
         })
     }
 
     /// Saves what changed since the last save, in one transaction of the file: of each stripe the rows of the keys that changed, or of
-    /// all its entries if the last save failed or none came before; and programs and scripts that are new. `NoMemory` if a request for
+    /// all its entries if the last save failed, none came before, or the file has got long; and programs and scripts that are new. `NoMemory` if a request for
     /// memory was refused, else a fault of the file; the file stays as it was then. Waits for stripes that others hold, each for a
     /// moment.
     pub fn save<R: Wait>(&mut self, rt: &R, shared: &Shared<'_, '_>) -> Result<(), KeepFault>
@@ -102,7 +139,6 @@ impl<S: Alter + Drop> Keeper<S> {
             → HasContent (state S.Store self.new.file.conn) self.new.taker.pass k) }
         ensures crash { Survives (state S.Store self.old.file.conn) (state S.Store self.new.file.conn)
             (WouldSave (state S.Store) self.old.takes_anew self.old.taker.pass.view self.new.taker.pass.view (stripes_of shared.now.map.now) self.old.file.conn) }
-        ensures ok { OnOk result (self.new.takes_anew ≡ false) }
         ensures err { OnErr result (self.new.takes_anew ≡ true) }
     {
         let had = Had {
@@ -113,7 +149,8 @@ impl<S: Alter + Drop> Keeper<S> {
         let conn = self.file.connection();
         let in_file = self.taker.save_all(rt, self.alloc, shared, &had, conn)?;
         self.in_file = in_file;
-        self.takes_anew = false;
+        self.log = self.log.after(self.taker.rows, had.takes_anew);
+        self.takes_anew = self.log.is_long();
         self.taker.pass.vouch();
         Ok(())
     }

@@ -1,25 +1,25 @@
 //! What a file has, back into a map, its programs and its scripts.
-ghost use Rattle.std.specs.Prelude.{◌≡◌, ◌⊎◌, ◌==◌, [], false, Ok, IsNone, IsTrue, IfOk, IfSome, OnOk, OnErr, length};
+ghost use Rattle.std.specs.Prelude.{◌≡◌, ◌⊎◌, ◌==◌, ℕ, List, [], false, None, Ok, IsNone, IsTrue, IfOk, IfSome, OnOk, length};
 ghost use Rattle.sqlite.specs.Held.{state};
 ghost use Rattle.sqlite.specs.State.{HasCleanDisk, IsUnchanged, Survives};
 ghost use Rattle.atomic_methods.specs.Hashes.{stripe_of};
+ghost use Rattle.atomic_methods.specs.Invocations.{invocation_of};
 ghost use Rattle.bin_stripes.specs.Passes.{ServesSameMap, stripes_of};
-ghost use Rattle.bin_stripes.specs.Timed.{RefusesAt};
-ghost use Rattle.timed_bins.specs.Deadlines.{is_over};
 ghost use Rattle.program_registry.specs.Sent.{IsSentAs};
 ghost use Rattle.program_registry.specs.Tokens.{IsOf, program_of};
 ghost use Rattle.kept_file.specs.Reading.{HandedOut};
 ghost use Rattle.kept_file.specs.Content.{HasTables};
-ghost use Rattle.map_keeper.specs.Kept.{EntersStripes};
-ghost use Rattle.map_keeper.specs.Restores.{AreRestored, CountsScripts, Enters, IsRestored, RestoresEntries, RestoresPrograms, change_to, has_time, put_of, timing_of};
+ghost use Rattle.kept_file.specs.Changes.{change_of, entry_of};
+ghost use Rattle.map_keeper.specs.Kept.{ReplaysStripes};
+ghost use Rattle.map_keeper.specs.Restores.{AreRestored, CallsOnce, CountsBelow, CountsScripts, IsLeft, IsRestored, Replays, ReplaysBatch, ReplaysFile, RestoresEntries, RestoresPrograms, left_at};
 
 use crate::fault::RestoreFault;
 use crate::keeper::{Keeper, Shared};
 use admission::{AdmissionFault, ProgramLimits, admit};
 use atomic_methods::Call;
 use bin_stripes::{Pass, StripedMap};
-use bpf_model::{NoMemory, Value};
-use kept_file::{Entries, KeepFault, KeptEntry, KeptProgram, entries};
+use bpf_model::{Key, NoMemory, Value};
+use kept_file::{Batches, KeepFault, KeptBatch, KeptChange, KeptProgram, Kind, batches};
 use program_registry::{ProgramToken, Registry, SentProgram};
 use redis_scripts::{ScriptFault, Scripts};
 use sqlite::{Alter, Connection};
@@ -31,7 +31,7 @@ use verifier::Verified;
 /// What came from a file.
 #[derive(Drop)]
 pub struct Restored {
-    /// How many entries, without those whose time was over.
+    /// How many entries the map has then.
     pub entries: u64,
     /// A token of each program, in the order of their numbers.
     pub programs: Vec<ProgramToken>,
@@ -118,47 +118,21 @@ fn register_all<R: Wait>(
     Ok(tokens)
 }
 
-/// Returns the change that gives a key this deadline, or none; `None` if the time is over.
-fn change_at(deadline: Option<u64>, now: u64) -> Option<DeadlineChange>
-    ensures some { IfSome result (λ change. (change ≡ change_to deadline) × (is_over deadline now ≡ false)) }
-    ensures none { IsNone result → IsTrue (is_over deadline now) }
+/// Returns what becomes of the deadline of a key with this change; `None` if the key has nothing at this time, since it was removed or its
+/// time is over.
+fn deadline_at(kind: Kind, now: u64) -> Option<DeadlineChange>
+    ensures some { IfSome result (λ change. (value : List ℕ) → IsLeft kind now value change) }
+    ensures none { IsNone result → (value : List ℕ) → left_at now (entry_of kind value) ≡ None }
 {
-    match deadline {
-        None => Some(DeadlineChange::Clear),
-        Some(at) if at <= now => None,
-        Some(at) => Some(DeadlineChange::Set {
+    match kind {
+        Kind::Removed => None,
+        Kind::Lasting => Some(DeadlineChange::Clear),
+        Kind::Until(at) if at <= now => None,
+        Kind::Until(at) => Some(DeadlineChange::Set {
             at,
             rule: SetRule::Always,
         }),
     }
-}
-
-/// Enters the entry, unless its time is over, and returns whether it did. The value that its key had is lost. `NoMemory` if a request
-/// for memory was refused; the key is not there then. Waits until the stripe of the key is free.
-fn enter<R: Wait>(
-    rt: &R,
-    map: &StripedMap,
-    pass: &mut Pass,
-    entry: &KeptEntry,
-    now: u64,
-    reply: &mut Value,
-) -> Result<bool, NoMemory>
-    requires map { pass.old.map ≡ map.now }
-    ensures same { ServesSameMap pass.old pass.new }
-    ensures count { IfOk result (λ entered. entered ≡ has_time now entry.now) }
-    ensures enters { OnOk result (Enters now entry.now pass.old pass.new) }
-    ensures err { OnErr result (RefusesAt pass.old (timing_of entry.now now) (put_of entry.now) pass.new) }
-{
-    let Some(change) = change_at(entry.deadline, now) else {
-        return Ok(false);
-    };
-    let timing = Timing { now, change };
-    let call = Call::Put {
-        key: &entry.key,
-        value: &entry.value,
-    };
-    map.call_at_into(rt, pass, &call, &timing, reply)?;
-    Ok(true)
 }
 
 /// Loads the scripts of these texts, and returns how many there are. `Script` if one is refused, `NoMemory` if a request for memory was
@@ -182,63 +156,163 @@ fn load<R: Wait>(
     Ok(place)
 }
 
-/// Tests whether the entry is in another stripe than that of its key, if the map has as many stripes as the one that was saved had.
-fn is_misplaced(map: &StripedMap, entry: &KeptEntry, had: u64) -> bool
-    ensures { result ≡ false → IsTrue (had == stripes_of map.now) → entry.now.stripe ≡ stripe_of (stripes_of map.now) entry.now.key }
-{
-    had == map.stripes() && entry.stripe != map.stripe_of(&entry.key)
+/// Room for a change that is read, and for a reply.
+#[derive(Drop)]
+struct Room {
+    change: KeptChange,
+    reply: Value,
 }
 
-/// Enters these entries of a map that had this many stripes, without those whose time is over, and returns how many there are. If the
-/// map has as many, each has to be in its key's stripe. `NoMemory` if a request for memory was refused, or there are 2^64 entries.
-fn enter_all<R: Wait, S: Alter>(
-    rt: &R,
-    map: &StripedMap,
-    pass: &mut Pass,
-    entries: &mut Entries<'_, S>,
+/// How the changes of a file are made again.
+#[derive(Clone, Copy)]
+struct Replay<'a> {
+    map: &'a StripedMap,
+    /// How many stripes the map had that was saved.
     had: u64,
-    now: u64,
-) -> Result<u64, RestoreFault>
-    requires map { pass.old.map ≡ map.now }
-    ensures same { ServesSameMap pass.old pass.new }
-    ensures same_reference { entries.new.conn.ghost_name ≡ entries.old.conn.ghost_name }
-    ensures entered { HasCleanDisk (state S.Store entries.new.conn.now) → IfOk result (λ count. (start : _) → HandedOut S.Store start entries.old.conn.now []
-        → RestoresEntries (state S.Store start) (had == stripes_of map.now) now pass.old pass.new count × IsUnchanged (state S.Store start) (state S.Store entries.new.conn.now)) }
-    ensures kept { Survives (state S.Store entries.old.conn.now) (state S.Store entries.new.conn.now) (λ _. ⊥) }
-{
-    let mut entry = KeptEntry::new();
-    let mut reply = Value::new();
-    let mut count = 0u64;
-    for i in 0..u64::MAX {
-        if !entries::next(entries, had, &mut entry)? {
-            return Ok(count);
-        }
-        if is_misplaced(map, &entry, had) {
-            return Err(RestoreFault::File(KeepFault::Damaged));
-        }
-        let is_entered = enter(rt, map, pass, &entry, now, &mut reply)?;
-        count += u64::from(is_entered);
+    /// The time, in milliseconds since the epoch.
+    time: u64,
+}
+
+impl Replay<'_> {
+    /// Tests whether a key's change is in another stripe than the key, if the map has as many stripes as the one that was saved had.
+    fn is_misplaced(&self, stripe: u64, key: &Key) -> bool
+        ensures { result ≡ false → IsTrue (self.now.had == stripes_of self.now.map.now) → stripe ≡ stripe_of (stripes_of self.now.map.now) key.now }
+    {
+        self.had == self.map.stripes() && stripe != self.map.stripe_of(key)
     }
-    Err(RestoreFault::NoMemory)
+
+    /// Makes a call at the time. `NoMemory` if a request for memory was refused.
+    fn call<R: Wait>(
+        &self,
+        rt: &R,
+        pass: &mut Pass,
+        call: &Call,
+        change: DeadlineChange,
+        reply: &mut Value,
+    ) -> Result<(), NoMemory>
+        requires map { pass.old.map ≡ self.now.map.now }
+        ensures same { ServesSameMap pass.old pass.new }
+        ensures calls { OnOk result (CallsOnce (record { now = self.now.time; change = change }) (invocation_of call.now) pass.old pass.new) }
+    {
+        let timing = Timing {
+            now: self.time,
+            change,
+        };
+        self.map.call_at_into(rt, pass, call, &timing, reply)?;
+        Ok(())
+    }
+
+    /// Makes the change: the key gets its value and its deadline, or is removed, also if its time is over. `NoMemory` if a request for
+    /// memory was refused. Waits until the stripe of the key is free.
+    #[tactic(auto, using(crate::proofs::RestoreLemmas::replays_put, crate::proofs::RestoreLemmas::replays_remove))]
+    fn make<R: Wait>(
+        &self,
+        rt: &R,
+        pass: &mut Pass,
+        change: &KeptChange,
+        reply: &mut Value,
+    ) -> Result<(), NoMemory>
+        requires map { pass.old.map ≡ self.now.map.now }
+        ensures same { ServesSameMap pass.old pass.new }
+        ensures replays { OnOk result (Replays self.now.time (change_of change.now) pass.old pass.new) }
+    {
+        let Some(deadline) = deadline_at(change.kind, self.time) else {
+            let call = Call::Remove { key: &change.key };
+            return self.call(rt, pass, &call, DeadlineChange::Clear, reply);
+        };
+        let call = Call::Put {
+            key: &change.key,
+            value: &change.value,
+        };
+        self.call(rt, pass, &call, deadline, reply)
+    }
+
+    /// Makes the changes of a batch, one after the other. If the map has as many stripes as the one that was saved had, each has to be in
+    /// its key's stripe. The faults of `KeptChange::read`, and `NoMemory` if a request for memory was refused.
+    fn make_batch<R: Wait>(
+        &self,
+        rt: &R,
+        pass: &mut Pass,
+        batch: &KeptBatch,
+        room: &mut Room,
+    ) -> Result<(), RestoreFault>
+        requires map { pass.old.map ≡ self.now.map.now }
+        ensures same { ServesSameMap pass.old pass.new }
+        ensures replays { OnOk result (ReplaysBatch (self.now.had == stripes_of self.now.map.now) self.now.time batch.now.stripe batch.now.bytes.items pass.old pass.new) }
+    {
+        let mut rest = batch.bytes.as_slice();
+        for _ in 0..u64::MAX {
+            if rest.is_empty() {
+                return Ok(());
+            }
+            rest = room.change.read(rest)?;
+            if self.is_misplaced(batch.stripe, &room.change.key) {
+                return Err(RestoreFault::File(KeepFault::Damaged));
+            }
+            self.make(rt, pass, &room.change, &mut room.reply)?;
+        }
+        Err(RestoreFault::NoMemory)
+    }
+
+    /// Makes the changes of all batches, in their order. The faults of `make_batch` and of `batches::next`.
+    fn make_all<R: Wait, S: Alter>(
+        &self,
+        rt: &R,
+        alloc: Global,
+        pass: &mut Pass,
+        batches: &mut Batches<'_, S>,
+    ) -> Result<(), RestoreFault>
+        requires map { pass.old.map ≡ self.now.map.now }
+        ensures same { ServesSameMap pass.old pass.new }
+        ensures same_reference { batches.new.conn.ghost_name ≡ batches.old.conn.ghost_name }
+        ensures replayed { HasCleanDisk (state S.Store batches.new.conn.now) → OnOk result ((start : _) → HandedOut S.Store start batches.old.conn.now []
+            → ReplaysFile (state S.Store start) (self.now.had == stripes_of self.now.map.now) self.now.time pass.old pass.new × IsUnchanged (state S.Store start) (state S.Store batches.new.conn.now)) }
+        ensures kept { Survives (state S.Store batches.old.conn.now) (state S.Store batches.new.conn.now) (λ _. ⊥) }
+    {
+        let mut batch = KeptBatch::new(alloc);
+        let mut room = Room {
+            change: KeptChange::new(),
+            reply: Value::new(),
+        };
+        for _ in 0..u64::MAX {
+            if !batches::next(batches, self.had, &mut batch)? {
+                return Ok(());
+            }
+            self.make_batch(rt, pass, &batch, &mut room)?;
+        }
+        Err(RestoreFault::NoMemory)
+    }
+
+    /// Makes the changes of the file that is connected so, as `make_all` does.
+    fn make_from<R: Wait, S: Alter>(
+        &self,
+        rt: &R,
+        alloc: Global,
+        pass: &mut Pass,
+        conn: &mut Connection<S>,
+    ) -> Result<(), RestoreFault>
+        requires map { pass.old.map ≡ self.now.map.now }
+        ensures same { ServesSameMap pass.old pass.new }
+        ensures replayed { HasCleanDisk (state S.Store conn.new) → OnOk result (ReplaysFile (state S.Store conn.old) (self.now.had == stripes_of self.now.map.now) self.now.time pass.old pass.new) }
+        ensures unchanged { HasCleanDisk (state S.Store conn.new) → OnOk result (IsUnchanged (state S.Store conn.old) (state S.Store conn.new)) }
+        ensures kept { OnOk result (Survives (state S.Store conn.old) (state S.Store conn.new) (λ _. ⊥)) }
+    {
+        let mut batches = batches::begin(conn)?;
+        self.make_all(rt, alloc, pass, &mut batches)
+    }
 }
 
-/// Enters the entries of the file that is connected so, as `enter_all` does.
-fn enter_from<R: Wait, S: Alter>(
-    rt: &R,
-    map: &StripedMap,
-    pass: &mut Pass,
-    conn: &mut Connection<S>,
-    had: u64,
-    now: u64,
-) -> Result<u64, RestoreFault>
+/// Returns how many entries the map has, by one count of each of its stripes.
+fn count_all<R: Wait>(rt: &R, map: &StripedMap, pass: &mut Pass) -> u64
     requires map { pass.old.map ≡ map.now }
     ensures same { ServesSameMap pass.old pass.new }
-    ensures entered { HasCleanDisk (state S.Store conn.new) → IfOk result (RestoresEntries (state S.Store conn.old) (had == stripes_of map.now) now pass.old pass.new) }
-    ensures unchanged { HasCleanDisk (state S.Store conn.new) → OnOk result (IsUnchanged (state S.Store conn.old) (state S.Store conn.new)) }
-    ensures kept { OnOk result (Survives (state S.Store conn.old) (state S.Store conn.new) (λ _. ⊥)) }
+    ensures counted { CountsBelow (stripes_of map.now) pass.old pass.new result }
 {
-    let mut entries = entries::begin(conn)?;
-    enter_all(rt, map, pass, &mut entries, had, now)
+    let mut count = 0u64;
+    for stripe in 0..map.stripes() {
+        count += map.count_stripe(rt, pass, stripe);
+    }
+    count
 }
 
 impl<S: Alter> Keeper<S> {
@@ -278,7 +352,7 @@ impl<S: Alter> Keeper<S> {
         Ok(loaded)
     }
 
-    /// Enters the entries of the file whose time is not over, and returns how many there are.
+    /// Makes the changes that the file has, and returns how many entries the map has after that.
     fn restore_entries<R: Wait>(
         &mut self,
         rt: &R,
@@ -292,13 +366,19 @@ impl<S: Alter> Keeper<S> {
         ensures unchanged { HasCleanDisk (state S.Store self.new.file.conn) → OnOk result (IsUnchanged (state S.Store self.old.file.conn) (state S.Store self.new.file.conn)) }
         ensures kept { OnOk result (Survives (state S.Store self.old.file.conn) (state S.Store self.new.file.conn) (λ _. ⊥)) }
     {
-        let had = self.in_file.stripes;
+        let replay = Replay {
+            map,
+            had: self.in_file.stripes,
+            time: now,
+        };
         let conn = self.file.connection();
-        enter_from(rt, map, &mut self.taker.pass, conn, had, now)
+        replay.make_from(rt, self.alloc, &mut self.taker.pass, conn)?;
+        Ok(count_all(rt, map, &mut self.taker.pass))
     }
 
     /// Restores what the file has: its programs, each verified anew and under the number that it had; its scripts; and its entries, with
-    /// their deadlines, without those whose time is over by `now`, in milliseconds since the epoch. The map, the registry and the table
+    /// their deadlines, without those whose time is over by `now`, in milliseconds since the epoch: the changes of the file are made once
+    /// more, in their order. The map, the registry and the table
     /// of scripts are new. `Program` and `Script` if one is refused, `Number` if a program would get another number, `NoMemory` if a
     /// request for memory was refused or there are more programs or scripts than there may be, else a fault of the file. After a fault
     /// the file is as it was, and some of it may be restored. Waits for stripes that others hold.
@@ -313,7 +393,7 @@ impl<S: Alter> Keeper<S> {
         ensures entries { HasCleanDisk (state S.Store self.new.file.conn) → IfOk result (λ restored. RestoresEntries (state S.Store self.old.file.conn)
             (self.old.in_file.stripes == stripes_of shared.now.map.now) now self.old.taker.pass self.new.taker.pass restored.entries) }
         ensures stripes { HasCleanDisk (state S.Store self.new.file.conn) → HasTables (state S.Store self.old.file.conn)
-            → OnOk result (EntersStripes (state S.Store self.old.file.conn) now self.old.taker.pass self.new.taker.pass) }
+            → OnOk result (ReplaysStripes (state S.Store self.old.file.conn) now self.old.taker.pass self.new.taker.pass) }
         ensures programs { HasCleanDisk (state S.Store self.new.file.conn) → IfOk result (λ restored. RestoresPrograms (state S.Store self.old.file.conn) shared.now.registry.now restored.programs.items) }
         ensures scripts { HasCleanDisk (state S.Store self.new.file.conn) → IfOk result (λ restored. CountsScripts (state S.Store self.old.file.conn) restored.scripts) }
         ensures unchanged { HasCleanDisk (state S.Store self.new.file.conn) → OnOk result (IsUnchanged (state S.Store self.old.file.conn) (state S.Store self.new.file.conn)) }

@@ -1,8 +1,8 @@
 //! Taking what changed out of a map, into a save.
-ghost use Rattle.std.specs.Prelude.{◌≡◌, ◌≢◌, ℕ, ◌<◌, [], ◌∷◌, map, if◌then◌else◌, true, false, IsTrue, IfOk, OnOk};
+ghost use Rattle.std.specs.Prelude.{◌≡◌, ◌≢◌, ℕ, ◌<◌, [], ◌∷◌, ◌++◌, if◌then◌else◌, true, false, IsTrue, IfOk, OnOk};
 ghost use Rattle.sqlite.specs.Held.{state};
 ghost use Rattle.sqlite.specs.State.{HasCleanDisk, Survives};
-ghost use Rattle.kept_file.specs.Saves.{Makes};
+ghost use Rattle.kept_file.specs.Changes.{IsWithin, change_bytes};
 ghost use Rattle.kept_file.specs.Statements.{clearing};
 ghost use Rattle.stripe_rule.specs.Gains.{Keeps};
 ghost use Rattle.bin_stripes.specs.Passes.{ServesSameMap, stripes_of};
@@ -10,13 +10,13 @@ ghost use Rattle.bin_stripes.specs.Saves.{SavesStripe as HandsOutOf};
 ghost use Rattle.noted_bins.specs.Marks.{saved_in};
 ghost use Rattle.noted_bins.specs.Notes.{is_all, is_some};
 ghost use Rattle.map_keeper.specs.Saves.{IsWhole, MadeOnlySaves};
-ghost use Rattle.map_keeper.specs.Written.{IsSavedSince, MakesAll, SavesBelow, SavesMap, SavesStripe, WouldSave, WritesAll, entering, statement_of, statements_of};
+ghost use Rattle.map_keeper.specs.Written.{IsSavedSince, MakesAll, Pending, SavesBelow, SavesMap, SavesStripe, WouldSave, WritesAll, WritesRound, WritesRows};
 
 use crate::keeper::{Had, InFile, Shared};
 use crate::saving::write_others;
 use bin_stripes::{Pass, StripedMap, TakeHow};
 use bpf_model::NoMemory;
-use kept_file::{KeepFault, Save, save};
+use kept_file::{Batch, KeepFault, Save, save};
 use noted_bins::{Changes, SavedEntry, Taken};
 use sqlite::{Alter, Connection};
 use std::alloc::Global;
@@ -28,11 +28,17 @@ const ROUND_KEYS: usize = 1000;
 /// After this many rounds in which more keys were noted, one round takes them all.
 const ROUNDS: u32 = 16;
 
+/// With so many bytes a batch is written.
+const BATCH_BYTES: usize = 1 << 14;
+
 /// A pass that only saves, and room for the rows of one round.
 #[derive(Drop)]
 pub(crate) struct Taker {
     pub(crate) pass: Pass,
     pub(crate) changes: Changes,
+    pub(crate) batch: Batch,
+    /// How many rows this save has written.
+    pub(crate) rows: u64,
 }
 
 /// A refused request for memory, as a fault of the file.
@@ -63,21 +69,13 @@ fn takes_all(taken: Taken) -> bool
     matches!(taken, Taken::All)
 }
 
-/// Writes what a key of this stripe has: its entry, or that it has none.
-fn write_row<S: Alter>(
-    stripe: u64,
-    key: &[u8],
-    entry: Option<SavedEntry<'_>>,
-    save: &mut Save<'_, S>,
-) -> Result<(), KeepFault>
-    ensures same_reference { save.new.conn.ghost_name ≡ save.old.conn.ghost_name }
-    ensures made { HasCleanDisk (state S.Store save.new.conn.now) → OnOk result
-        (Makes (entering stripe key.now (saved_in entry.entry)).0 (entering stripe key.now (saved_in entry.entry)).1 (state S.Store save.old.conn.now) (state S.Store save.new.conn.now)) }
-    ensures kept { Survives (state S.Store save.old.conn.now) (state S.Store save.new.conn.now) (λ _. ⊥) }
+/// Appends what a key has to a batch: its entry, or that it has none. The faults of `Batch::put`.
+fn push(batch: &mut Batch, key: &[u8], entry: Option<SavedEntry<'_>>) -> Result<(), KeepFault>
+    ensures { OnOk result (IsWithin (key.now, saved_in entry.entry) × (batch.new.bytes.items ≡ batch.old.bytes.items ++ change_bytes (key.now, saved_in entry.entry))) }
 {
     match entry {
-        Some(entry) => save::put(save, stripe, key, entry.value, entry.deadline),
-        None => save::remove(save, stripe, key),
+        Some(entry) => batch.put(key, entry.value, entry.deadline),
+        None => batch.remove(key),
     }
 }
 
@@ -94,22 +92,79 @@ fn write_start<S: Alter>(stripe: u64, taken: Taken, save: &mut Save<'_, S>) -> R
     save::start_anew(save, stripe)
 }
 
-/// Writes these rows of a stripe, in their order.
+/// Writes the batch and takes its changes out, if it has as many bytes as one should have.
+fn write_full<S: Alter>(
+    stripe: u64,
+    batch: &mut Batch,
+    save: &mut Save<'_, S>,
+) -> Result<(), KeepFault>
+    ensures same_reference { save.new.conn.ghost_name ≡ save.old.conn.ghost_name }
+    ensures wrote { HasCleanDisk (state S.Store save.new.conn.now) → OnOk result ((rows : _) (start : _) → Pending (state S.Store) stripe rows batch.old.bytes.items start save.old.conn.now
+        → Pending (state S.Store) stripe rows batch.new.bytes.items start save.new.conn.now) }
+    ensures kept { Survives (state S.Store save.old.conn.now) (state S.Store save.new.conn.now) (λ _. ⊥) }
+{
+    if batch.as_slice().len() < BATCH_BYTES {
+        return Ok(());
+    }
+    save::append(save, stripe, batch)?;
+    batch.clear();
+    Ok(())
+}
+
+/// Writes the batch, if it has changes.
+fn write_left<S: Alter>(
+    stripe: u64,
+    batch: &Batch,
+    save: &mut Save<'_, S>,
+) -> Result<(), KeepFault>
+    ensures same_reference { save.new.conn.ghost_name ≡ save.old.conn.ghost_name }
+    ensures wrote { HasCleanDisk (state S.Store save.new.conn.now) → OnOk result ((rows : _) (start : _) → Pending (state S.Store) stripe rows batch.now.bytes.items start save.old.conn.now
+        → WritesRows (state S.Store) stripe rows start save.new.conn.now) }
+    ensures kept { Survives (state S.Store save.old.conn.now) (state S.Store save.new.conn.now) (λ _. ⊥) }
+{
+    if batch.as_slice().is_empty() {
+        return Ok(());
+    }
+    save::append(save, stripe, batch)
+}
+
+/// Writes these rows of a stripe, in their order, as batches of some 16 KiB. `batch` is room for one.
 fn write_rows<S: Alter>(
     stripe: u64,
     changes: &Changes,
+    batch: &mut Batch,
     save: &mut Save<'_, S>,
 ) -> Result<(), KeepFault>
     ensures same_reference { save.new.conn.ghost_name ≡ save.old.conn.ghost_name }
     ensures made { HasCleanDisk (state S.Store save.new.conn.now) → OnOk result
-        (MakesAll (state S.Store) (map (statement_of stripe) changes.now) save.old.conn.now save.new.conn.now) }
+        (WritesRows (state S.Store) stripe changes.now save.old.conn.now save.new.conn.now) }
     ensures kept { Survives (state S.Store save.old.conn.now) (state S.Store save.new.conn.now) (λ _. ⊥) }
 {
+    batch.clear();
     for place in 0..changes.len() {
         let (key, entry) = changes.get(place);
-        write_row(stripe, key, entry, save)?;
+        push(batch, key, entry)?;
+        write_full(stripe, batch, save)?;
     }
-    Ok(())
+    write_left(stripe, batch, save)
+}
+
+/// Writes the rows of a round into the save. If the round took all entries of the stripe, what the file has of it goes first. `batch` is
+/// room for one.
+fn write_round<S: Alter>(
+    stripe: u64,
+    taken: Taken,
+    changes: &Changes,
+    batch: &mut Batch,
+    save: &mut Save<'_, S>,
+) -> Result<(), KeepFault>
+    ensures same_reference { save.new.conn.ghost_name ≡ save.old.conn.ghost_name }
+    ensures made { HasCleanDisk (state S.Store save.new.conn.now) → OnOk result
+        (WritesRound (state S.Store) stripe (is_all taken) changes.now save.old.conn.now save.new.conn.now) }
+    ensures kept { Survives (state S.Store save.old.conn.now) (state S.Store save.new.conn.now) (λ _. ⊥) }
+{
+    write_start(stripe, taken, save)?;
+    write_rows(stripe, changes, batch, save)
 }
 
 impl Taker {
@@ -136,22 +191,6 @@ impl Taker {
             Ok(taken) => Ok(taken),
             Err(NoMemory) => Err(KeepFault::NoMemory),
         }
-    }
-
-    /// Writes the rows of the last round into the save. If the round took all entries of the stripe, what the file has of it goes first.
-    fn write<S: Alter>(
-        &self,
-        stripe: u64,
-        taken: Taken,
-        save: &mut Save<'_, S>,
-    ) -> Result<(), KeepFault>
-        ensures same_reference { save.new.conn.ghost_name ≡ save.old.conn.ghost_name }
-        ensures made { HasCleanDisk (state S.Store save.new.conn.now) → OnOk result
-            (MakesAll (state S.Store) (statements_of stripe (record { all = is_all taken; rows = self.now.changes })) save.old.conn.now save.new.conn.now) }
-        ensures kept { Survives (state S.Store save.old.conn.now) (state S.Store save.new.conn.now) (λ _. ⊥) }
-    {
-        write_start(stripe, taken, save)?;
-        write_rows(stripe, &self.changes, save)
     }
 
     /// Takes what changed in this stripe, or all of it, into the save, until nothing is noted. `NoMemory` if a request for memory was
@@ -187,7 +226,8 @@ impl Taker {
                 most,
             };
             let taken = self.take(rt, map, stripe, how)?;
-            self.write(stripe, taken, save)?;
+            self.rows = self.rows.saturating_add(self.changes.len() as u64);
+            write_round(stripe, taken, &self.changes, &mut self.batch, save)?;
             if !leaves_noted(taken) {
                 return Ok(());
             }
@@ -265,6 +305,7 @@ impl Taker {
         if !conn.is_autocommit() {
             return Err(KeepFault::Unwritable);
         }
+        self.rows = 0;
         let mut save = conn.transaction();
         let in_file = self.write_all(rt, alloc, shared, had, &mut save)?;
         save.commit()?;

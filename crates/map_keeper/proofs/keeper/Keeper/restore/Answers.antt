@@ -4,8 +4,7 @@ use Rattle.sqlite.specs.State.{HasCleanDisk, IsUnchanged}
 use Rattle.sqlite.proofs.Callers.{unchanged_then}
 use Rattle.bin_stripes.specs.Passes.{PassState, stripes_of}
 use Rattle.map_keeper.specs.Restores.{RestoresEntries}
-use Rattle.map_keeper.proofs.HistoryLemmas.{enters_stripes}
-use Rattle.map_keeper.proofs.RestoreLemmas.{entries_restored, scripts_counted}
+use Rattle.map_keeper.proofs.RestoreLemmas.{entries_restored, replays_stripes, scripts_counted}
 use Rattle.map_keeper.proofs.WriteLemmas.{clean_before}
 use Rattle.map_keeper.proofs.keeper.Keeper.restore.Goals as goal
 
@@ -41,4 +40,4 @@ returns-clause-entries g c clean =
 
 -- what was entered is what the file has
 pub returns-clause-stripes : goal.returns-clause-stripes
-returns-clause-stripes g c clean tables = enters_stripes _ _ _ _ _ _ tables (returns-clause-entries g c clean)
+returns-clause-stripes g c clean tables = replays_stripes _ _ _ _ _ _ tables (returns-clause-entries g c clean)

@@ -1,8 +1,7 @@
-use Rattle.std.proofs.Common.{◌≡◌, ◌∙◌, IsTrue, [], length, refl, sym, subst, arith, length-append}
+use Rattle.std.proofs.Common.{◌∙◌, IsTrue, refl, sym, subst}
 use Rattle.sqlite.specs.Held.{state}
-use Rattle.map_keeper.specs.Written.{Round}
 use Rattle.map_keeper.proofs.SaveLemmas.{keeps_then, same_then, saves_at_first, saves_then}
-use Rattle.map_keeper.proofs.WriteLemmas.{clean_before, hands_more, hands_nothing, is_first_round, keeps_same, kept_then, makes_none, makes_round, survives_same}
+use Rattle.map_keeper.proofs.WriteLemmas.{clean_before, handed_more, handed_none, handed_on, keeps_same, kept_then, survives_same, wrote_more, wrote_none, wrote_on}
 use Rattle.map_keeper.proofs.taker.Taker.save_stripe.Goals as goal
 
 -- no round yet
@@ -13,7 +12,8 @@ loop-round-init g c = record {
   made = saves_at_first c.args.self.now.pass.view;
   elsewhere = λ j apart. keeps_same c.args.self.now.pass.view j;
   same_reference = refl;
-  handed = ([], hands_nothing c.args.anew c.args.self.now.pass.view c.args.stripe, λ low. absurd (omega (arith, low)), λ clean. makes_none (state g.S.Store) c.args.save.now.conn.now);
+  handed = handed_none c.args.anew c.args.self.now.pass.view c.args.stripe;
+  wrote = λ clean. wrote_none (state g.S.Store) c.args.anew c.args.self.now.pass.view c.args.stripe c.args.save.now.conn.now;
   kept = survives_same (state g.S.Store c.args.save.now.conn.now);
 }
 
@@ -22,11 +22,11 @@ pub returns-in_err-taken-clause-made : goal.returns-in_err-taken-clause-made
 returns-in_err-taken-clause-made g c = saves_then c.args.self.now.pass.view c.loop-round.self.pass.view c.take.new.self.pass.view c.loop-round.invariant.made c.take.ensures.made
 
 -- its rows could not be written
-pub returns-in_err-write-clause-made : goal.returns-in_err-write-clause-made
-returns-in_err-write-clause-made g c = saves_then c.args.self.now.pass.view c.loop-round.self.pass.view c.take.new.self.pass.view c.loop-round.invariant.made c.take.ensures.made
+pub returns-in_err-write_round-clause-made : goal.returns-in_err-write_round-clause-made
+returns-in_err-write_round-clause-made g c = saves_then c.args.self.now.pass.view c.loop-round.self.pass.view c.take.new.self.pass.view c.loop-round.invariant.made c.take.ensures.made
 
-pub returns-in_err-write-clause-kept : goal.returns-in_err-write-clause-kept
-returns-in_err-write-clause-kept g c = kept_then _ _ _ c.loop-round.invariant.kept c.write.ensures.kept
+pub returns-in_err-write_round-clause-kept : goal.returns-in_err-write_round-clause-kept
+returns-in_err-write_round-clause-kept g c = kept_then _ _ _ c.loop-round.invariant.kept c.write_round.ensures.kept
 
 -- the last round
 pub returns-then-not-leaves_noted-clause-made : goal.returns-then-not-leaves_noted-clause-made
@@ -40,44 +40,38 @@ returns-then-not-leaves_noted-clause-whole g c = c.in_ok-taken.ensures.whole (sy
 
 pub returns-then-not-leaves_noted-clause-ends : goal.returns-then-not-leaves_noted-clause-ends
 returns-then-not-leaves_noted-clause-ends g c =
-    let before = c.loop-round.invariant.handed in (
-      _,
-      hands_more c.args.anew c.args.self.now.pass.view c.loop-round.self.pass c.args.stripe c.take.new.self.changes _ c.take.new.self.pass before.0 before.1 c.in_ok-taken.ensures.handed
-          (λ none yes. let first : c.loop-round.round ≡ 0 = is_first_round c.loop-round.round (length before.0) before.2 none in c.in_ok-taken.ensures.anew (subst IsTrue (sym (c.is_first.ensures first)) yes)),
-    )
+    handed_more c.args.anew c.args.self.now.pass.view c.loop-round.self.pass c.args.stripe c.loop-round.round c.take.new.self.changes c.in_ok-taken.taken c.take.new.self.pass
+    c.loop-round.invariant.handed c.in_ok-taken.ensures.handed
+    (λ none yes. c.in_ok-taken.ensures.anew (subst IsTrue (sym (c.is_first.ensures none)) yes))
 
 pub returns-then-not-leaves_noted-clause-wrote : goal.returns-then-not-leaves_noted-clause-wrote
 returns-then-not-leaves_noted-clause-wrote g c clean =
-    let before = c.loop-round.invariant.handed in
-    record {
-      rounds = _;
-      ends = hands_more c.args.anew c.args.self.now.pass.view c.loop-round.self.pass c.args.stripe c.take.new.self.changes _ c.take.new.self.pass before.0 before.1 c.in_ok-taken.ensures.handed
-          (λ none yes. let first : c.loop-round.round ≡ 0 = is_first_round c.loop-round.round (length before.0) before.2 none in c.in_ok-taken.ensures.anew (subst IsTrue (sym (c.is_first.ensures first)) yes));
-      made = makes_round (state g.S.Store) c.args.stripe before.0 _ c.args.save.now.conn.now c.loop-round.save.conn.now c.write.new.save.conn.now
-          (before.3 (clean_before _ _ _ c.write.ensures.kept clean)) (c.in_ok-write.ensures.made clean);
-    }
+    wrote_more (state g.S.Store) c.args.anew c.args.self.now.pass.view c.loop-round.self.pass c.args.stripe c.loop-round.round c.take.new.self.changes c.in_ok-taken.taken c.take.new.self.pass
+    c.args.save.now.conn.now c.loop-round.save.conn.now c.write_round.new.save.conn.now (c.loop-round.invariant.wrote (clean_before _ _ _ c.write_round.ensures.kept clean)) c.in_ok-taken.ensures.handed
+    (λ none yes. c.in_ok-taken.ensures.anew (subst IsTrue (sym (c.is_first.ensures none)) yes))
+    (c.in_ok-write_round.ensures.made clean)
 
 pub returns-then-not-leaves_noted-clause-kept : goal.returns-then-not-leaves_noted-clause-kept
-returns-then-not-leaves_noted-clause-kept g c = kept_then _ _ _ c.loop-round.invariant.kept c.write.ensures.kept
+returns-then-not-leaves_noted-clause-kept g c = kept_then _ _ _ c.loop-round.invariant.kept c.write_round.ensures.kept
 
 -- one round more
 pub loop-round-preserved : goal.loop-round-preserved
 loop-round-preserved g c =
-    let before = c.loop-round.invariant.handed in
-    let ends = hands_more c.args.anew c.args.self.now.pass.view c.loop-round.self.pass c.args.stripe c.take.new.self.changes _ c.take.new.self.pass before.0 before.1 c.in_ok-taken.ensures.handed
-    (λ none yes. let first : c.loop-round.round ≡ 0 = is_first_round c.loop-round.round (length before.0) before.2 none in c.in_ok-taken.ensures.anew (subst IsTrue (sym (c.is_first.ensures first)) yes)) in
+    let before = c.loop-round.invariant in
+    let v = c.args.self.now.pass.view in
+    let p = c.loop-round.self.pass in
+    let q = c.take.new.self.pass in
     record {
-      map = c.take.ensures.same.map ∙ c.loop-round.invariant.map;
-      same = same_then c.args.self.now.pass c.loop-round.self.pass c.take.new.self.pass c.loop-round.invariant.same c.take.ensures.same;
-      made = saves_then c.args.self.now.pass.view c.loop-round.self.pass.view c.take.new.self.pass.view c.loop-round.invariant.made c.take.ensures.made;
-      elsewhere = λ j apart. keeps_then c.args.self.now.pass.view c.loop-round.self.pass.view c.take.new.self.pass.view j (c.loop-round.invariant.elsewhere j apart) (c.take.ensures.elsewhere j apart);
-      same_reference = c.write.ensures.same_reference ∙ c.loop-round.invariant.same_reference;
-      handed = (
-        _,
-        ends.handed,
-        λ low. omega (arith, length-append {A = Round}),
-        λ clean. makes_round (state g.S.Store) c.args.stripe before.0 _ c.args.save.now.conn.now c.loop-round.save.conn.now c.write.new.save.conn.now
-            (before.3 (clean_before _ _ _ c.write.ensures.kept clean)) (c.in_ok-write.ensures.made clean),
-      );
-      kept = kept_then _ _ _ c.loop-round.invariant.kept c.write.ensures.kept;
+      map = c.take.ensures.same.map ∙ before.map;
+      same = same_then c.args.self.now.pass p q before.same c.take.ensures.same;
+      made = saves_then v p.view q.view before.made c.take.ensures.made;
+      elsewhere = λ j apart. keeps_then v p.view q.view j (before.elsewhere j apart) (c.take.ensures.elsewhere j apart);
+      same_reference = c.write_round.ensures.same_reference ∙ before.same_reference;
+      handed = handed_on c.args.anew v p c.args.stripe c.loop-round.round c.take.new.self.changes c.in_ok-taken.taken q before.handed c.in_ok-taken.ensures.handed
+          (λ none yes. c.in_ok-taken.ensures.anew (subst IsTrue (sym (c.is_first.ensures none)) yes));
+      wrote = λ clean. wrote_on (state g.S.Store) c.args.anew v p c.args.stripe c.loop-round.round c.take.new.self.changes c.in_ok-taken.taken q
+          c.args.save.now.conn.now c.loop-round.save.conn.now c.write_round.new.save.conn.now (before.wrote (clean_before _ _ _ c.write_round.ensures.kept clean)) c.in_ok-taken.ensures.handed
+          (λ none yes. c.in_ok-taken.ensures.anew (subst IsTrue (sym (c.is_first.ensures none)) yes))
+          (c.in_ok-write_round.ensures.made clean);
+      kept = kept_then _ _ _ before.kept c.write_round.ensures.kept;
     }
