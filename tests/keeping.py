@@ -3,8 +3,11 @@
 
   - killed: sixteen clients of both protocols, or one, and SIGKILL at a random moment. Then nothing is missing that was answered before a
     save, or longer ago than the saves are apart and take; nothing is there that never was, and each key is what it was at one moment.
-    Programs have their numbers, scripts their names, and sqlite3 finds no fault in the file.
+    Programs have their numbers, scripts their names, and sqlite3 finds no fault in the file. docs/entries.sql finds what its batches have.
   - ended: after the last session, or SHUTDOWN, nothing is missing, with another number of stripes too.
+  - bounded: many changes of few keys, and the file doesn't get longer and longer.
+  - upgraded: a file of format 1 is refused, and the client in Python makes one of it that is taken.
+  - foreign: files whose batches Python made. Sound ones are taken, and each fault in a batch is refused by its own line.
   - damaged: files of another kind, cut ones, ones with changed bits. Each is refused, or every entry is one that was there.
   - hindered: a file that can't be written, a full disk, a file that is removed, a second server.
   - asked: SAVE, BGSAVE, LASTSAVE and SHUTDOWN.
@@ -15,12 +18,14 @@ from __future__ import annotations
 
 import argparse
 import contextlib
+import itertools
 import os
 import random
 import resource
 import shutil
 import signal
 import sqlite3
+import subprocess
 import sys
 import tempfile
 import threading
@@ -28,14 +33,18 @@ import time
 from collections.abc import Callable, Iterator
 from hashlib import sha1
 from pathlib import Path
+from typing import Optional
 
-sys.path.insert(0, str(Path(__file__).resolve().parent))
+ROOT = Path(__file__).resolve().parent.parent
+sys.path.insert(0, str(ROOT / "tests"))
 sys.dont_write_bytecode = True
+import kept_format as fmt  # noqa: E402
 import keeping_load as load  # noqa: E402
 import redis_wire as resp  # noqa: E402
 import sequential as model  # noqa: E402
 import wire  # noqa: E402
 from keeping_load import Changes, Kept, Named, NotStarted, Player, State, kept  # noqa: E402
+from kept_format import Batch, Change  # noqa: E402
 from wire import Wrong, same  # noqa: E402
 
 CLIENTS = 16
@@ -43,6 +52,8 @@ CLIENTS = 16
 BALLAST = {b"ballast %d" % number: State(b"%d" % number * 20) for number in range(5000)}
 NOBODY = 65534
 DEADLINE = 4_000_000_000_000
+# The view of the entries for sqlite3.
+ENTRIES = (ROOT / "docs/entries.sql").read_text(encoding="utf-8")
 
 
 def is_redis(program: Path) -> bool:
@@ -64,21 +75,23 @@ def copied(file: Path, folder: Path) -> Path:
     return folder / file.name
 
 
-def check_by_sqlite(file: Path) -> None:
-    """Fails if sqlite3 finds a fault in a copy of the file and its log."""
-    with tempfile.TemporaryDirectory() as folder:
-        copy = copied(file, Path(folder) / "copy")
-        with contextlib.closing(sqlite3.connect(copy)) as data:
-            same("the integrity check", data.execute("pragma integrity_check").fetchall(), [("ok",)])
+@contextlib.contextmanager
+def opened_copy(file: Path) -> Iterator[sqlite3.Connection]:
+    """A copy of a file and its log, opened by sqlite3."""
+    with tempfile.TemporaryDirectory() as folder, contextlib.closing(sqlite3.connect(copied(file, Path(folder) / "copy"))) as data:
+        yield data
 
 
 def entries_by_sql(file: Path) -> Changes:
-    """The entries that SQL finds in a copy of the file and its log."""
-    with tempfile.TemporaryDirectory() as folder:
-        copy = copied(file, Path(folder) / "copy")
-        with contextlib.closing(sqlite3.connect(copy)) as data:
-            rows = data.execute("select key, value, deadline from entries").fetchall()
-    return {bytes(key): State(bytes(value), deadline, deadline) for key, value, deadline in rows}
+    """The entries that docs/entries.sql finds in a copy of the file. Fails if its batches have others, or sqlite3 finds a fault."""
+    with opened_copy(file) as data:
+        same("the integrity check", data.execute("pragma integrity_check").fetchall(), [("ok",)])
+        data.executescript(ENTRIES)
+        rows = data.execute("select stripe, key, value, deadline from entries").fetchall()
+        found = {(stripe, key): (value, deadline) for stripe, key, value, deadline in rows}
+        same("the entries by docs/entries.sql", found, fmt.entries_of(data))
+    same("how many rows these are", len(rows), len(found))
+    return {key: State(value, deadline, deadline) for (_, key), (value, deadline) in found.items()}
 
 
 class Known:
@@ -179,7 +192,7 @@ class Rounds:
         # saves are a second apart; on a busy machine one may begin late, and take much longer than the one that was timed
         limit = max([killed - 2.5 - 10 * took, *moment.saves])
         if not is_redis(self.program):
-            check_by_sqlite(self.file)
+            entries_by_sql(self.file)
         self.judge(players, limit, killed, stripes == 1)
         print(f"round {number}: {len(players)} clients, {stripes} stripes, {sum(len(player.steps) for player in players)} steps in "
               f"{killed - begun:.1f} s, {len(moment.saves)} saves asked for (one took {took:.3f} s); the oldest that is missing is "
@@ -266,7 +279,6 @@ def ended(given: argparse.Namespace, folder: Path) -> None:
     """Servers that end in order lose nothing."""
     file, known = folder / "map.db", Known()
     make_saved(given, file, known)
-    check_by_sqlite(file)
     same("the entries by SQL", entries_by_sql(file), SAVED)
     for stripes in ("1", "64", "2"):
         check_all(given, file, SAVED, known, "--stripes", stripes)
@@ -315,12 +327,175 @@ def backed_up(given: argparse.Namespace, folder: Path) -> None:
         copy = copied(file, folder / "backup")
         server.process.send_signal(signal.SIGCONT)
         busy.join()
-    check_by_sqlite(copy)
+    entries_by_sql(copy)
     with kept(given.program, copy) as server:
         found = load.read_back(server)
         same("what the copy has of what was saved", {key: found.get(key) for key in SAVED}, SAVED)
         same("what else it has", {key for key in set(found) - set(SAVED) if found[key] != BALLAST.get(key)}, set())
         known.check(server, [], 0)
+
+
+FEW_KEYS = [b"few %d" % number for number in range(8000)]
+# Twice what the entries need, 65,536, and those of two saves.
+MOST_CHANGES = 4 * len(FEW_KEYS) + (1 << 16)
+
+
+def bounded(given: argparse.Namespace, folder: Path) -> None:
+    """Few keys change again and again: neither the changes that the file has nor its pages get more and more."""
+    file, counts, pages = folder / "map.db", [], []
+    with kept(given.program, file, "--stripes", "64", "--keep-seconds", "3600") as server, resp.Client(server.redis) as client:
+        for turn in range(given.turns):
+            entries = {key: State(b"turn %d" % turn) for key in FEW_KEYS}
+            fill(server, entries)
+            same("SAVE", client.ask("SAVE"), resp.OK)
+            with opened_copy(file) as data:
+                counts.append(sum(1 for _ in fmt.changes_of(data)))
+                pages += data.execute("pragma page_count").fetchone()
+            same(f"that the changes after each save, {counts}, are at most {MOST_CHANGES}", counts[-1] <= MOST_CHANGES, True)
+    same("the entries by SQL", entries_by_sql(file), entries)
+    check_all(given, file, entries, Known())
+    anew = next((turn for turn in range(1, given.turns) if counts[turn] < counts[turn - 1]), given.turns)
+    same(f"that the pages after each save, {pages}, at most double after save {anew}", max(pages) <= 2 * max(pages[:anew]), True)
+    print(f"bounded: of {given.turns * len(FEW_KEYS)} changes the file had {max(counts)} at most, in {max(pages)} pages")
+
+
+def old_files(folder: Path, stripes: int, known: Known) -> tuple[Path, Path]:
+    """A file of format 1 that Python makes, with a program and a script, and a copy of it that has most in the log beside it."""
+    folder.mkdir()
+    file, add, code = folder / "old.db", model.PROGRAMS[model.ADD], load.constant_program(7)
+    with contextlib.closing(sqlite3.connect(file)) as other:
+        other.execute("pragma journal_mode = wal")
+        # with this connection open, the next one leaves the log as it is
+        other.execute("select * from sqlite_schema").fetchall()
+        with fmt.made(file, 1, stripes) as data:
+            data.executemany("insert into programs values (?, ?, ?, ?, ?, ?)", [(0, *add.sizes, add.code), (1, *load.CONSTANT_SIZES, code)])
+            data.execute("insert into scripts (text) values (?)", (resp.SUM_SCRIPT,))
+            fmt.add_old(data, [Change(key, state.value, state.earliest) for key, state in SAVED.items()], stripes)
+        copy = copied(file, folder / "with a log")
+    same("the log has rows", log_of(copy).stat().st_size > copy.stat().st_size, True)
+    for named in (add.code, 0), (code, 1), (resp.SUM_SCRIPT, sha1(resp.SUM_SCRIPT).hexdigest().encode()):
+        known.note(Named(*named, 0))
+    return file, copy
+
+
+def upgrade(old: Path, new: Path) -> int:
+    """Runs the tool that makes a file of format 2 of one of format 1; its status."""
+    words = [sys.executable, "-B", "-m", "bpfmap.upgrade", str(old), str(new)]
+    return subprocess.run(words, cwd=ROOT / "clients/python", stdin=subprocess.DEVNULL, stderr=subprocess.DEVNULL, check=False).returncode
+
+
+def upgraded(given: argparse.Namespace, folder: Path) -> None:
+    """A file of format 1 is refused, and the one that the client in Python makes of it is taken, with all that it had."""
+    for stripes in (1, 16):
+        known, new = Known(), folder / f"new {stripes}.db"
+        old, with_log = old_files(folder / f"old {stripes}", stripes, known)
+        before = with_log.read_bytes(), log_of(with_log).read_bytes()
+        same("the status of the upgrade", upgrade(with_log, new), 0)
+        same("the old file and its log", (with_log.read_bytes(), log_of(with_log).read_bytes()), before)
+        same("the status of a second upgrade", upgrade(with_log, new), 1)
+        same("the status of an upgrade of what is new", upgrade(new, folder / "newer.db"), 1)
+        same("the entries by SQL", entries_by_sql(new), SAVED)
+        same("what --kept says of the new file", report_of(given, new), None)
+        for count in ("16", "4", "4"):
+            check_all(given, new, SAVED, known, "--stripes", count)
+        same("what --kept says of the old file", report_of(given, old), "of an older format (1)")
+        same("what a server says of it", refusal_of(given, old), "of an older format (1)")
+
+
+def line_on(file: Path, lines: list[str]) -> str:
+    """What a line says of the file."""
+    for line in lines:
+        if line.startswith(f"{file}: "):
+            return line.removeprefix(f"{file}: ")
+    raise Wrong(f"no line says why {file} is refused: {lines}")
+
+
+def refusal_of(given: argparse.Namespace, file: Path, *options: str) -> Optional[str]:
+    """Why a server refuses the file, as it says; nothing if it takes it."""
+    try:
+        with kept(given.program, file, *options):
+            return None
+    except NotStarted as refused:
+        same("the status", refused.status, 3)
+        return line_on(file, refused.lines)
+
+
+def report_of(given: argparse.Namespace, file: Path) -> Optional[str]:
+    """Why `mapd --kept` refuses the file, as it says; nothing if it finds the file sound."""
+    words = [str(given.program), "--kept", str(file)]
+    done = subprocess.run(words, stdin=subprocess.DEVNULL, capture_output=True, timeout=wire.PATIENCE, check=False)
+    if done.returncode == 0:
+        same("the last line", done.stdout.splitlines()[-1:], [b"sound"])
+        return None
+    same("the status and what is printed", (done.returncode, done.stdout), (1, b""))
+    return line_on(file, done.stderr.decode().splitlines())
+
+
+SOUND = [Change(b"lasting", b"value"), Change(b"until", b"other value", DEADLINE), Change(b"lasting")]
+DAMAGED, TOO_LONG = "damaged", "a key or a value in it is too long"
+
+
+def faulty() -> Iterator[tuple[str, list[Batch], str]]:
+    """Batches of a map of one stripe that no server writes, each with its name and why the file is refused."""
+    lasting, until, removed = map(fmt.spelled, SOUND)
+    for kind in (3, 4, 0x80, 0xff):
+        yield f"a change of kind {kind}", [Batch(1, 0, lasting[:1] + bytes([kind]) + lasting[2:])], DAMAGED
+    key, value = b"k" * 65, b"v" * 1025
+    for number, change in enumerate([Change(key), Change(key, b""), Change(key, b"", DEADLINE), Change(b"", value), Change(b"", value, DEADLINE)]):
+        yield f"the change {number} with one byte more than it may have", [Batch(1, 0, lasting + fmt.spelled(change))], TOO_LONG
+    yield "the longest key that a byte says", [Batch(1, 0, b"\xff\x00")], TOO_LONG
+    yield "the longest value that four bytes say", [Batch(1, 0, lasting[:9] + b"\xff" * 4)], TOO_LONG
+    yield "a value of 65,536 bytes", [Batch(1, 0, lasting[:9] + b"\x00\x00\x01\x00" + bytes(65536))], TOO_LONG
+    yield "a byte more", [Batch(1, 0, lasting + removed + b"\x00")], DAMAGED
+    yield "a change that goes on in the next batch", [Batch(1, 0, until[:20]), Batch(2, 0, until[20:])], DAMAGED
+    for stripe in (1, 2 ** 63 - 1, -1, -2 ** 63):
+        yield f"the stripe {stripe}", [Batch(1, 0, lasting), Batch(2, stripe, lasting)], DAMAGED
+    for number in (0, -1, -2 ** 63):
+        yield f"the number {number}", [Batch(number, 0, lasting), Batch(1, 0, lasting)], DAMAGED
+
+
+def foreign(given: argparse.Namespace, folder: Path) -> None:
+    """Files that Python makes: sound ones are taken, and faulty ones refused, by a server and by --kept."""
+    sound_batches(given, folder)
+    for name, batches, line in faulty():
+        file = fmt.make(folder / f"{name}.db", batches)
+        same(f"what is said of {name}", (report_of(given, file), refusal_of(given, file)), (line, line))
+    cut_batches(given, folder)
+    stripe = fmt.stripe_of(b"lasting", 2)
+    for name, placed, line in ("own", stripe, None), ("other", 1 - stripe, DAMAGED):
+        file = fmt.make(folder / f"in its {name} stripe.db", [Batch(1, placed, fmt.spelled(SOUND[0]))], 2)
+        same(f"what is said of a key in its {name} stripe", refusal_of(given, file, "--stripes", "2"), line)
+    for number, line in (0, "not a file of this server's"), (1, "of an older format (1)"), (3, "of a newer format (3)"):
+        file = folder / f"format {number}.db"
+        with fmt.made(file, number):
+            pass
+        same(f"what is said of the format {number}", (report_of(given, file), refusal_of(given, file)), (line, line))
+
+
+def sound_batches(given: argparse.Namespace, folder: Path) -> None:
+    """Files in which keys change again and again: each has what its last change says."""
+    changes = [Change(key, b"before", DEADLINE) for key in SAVED] + [Change(key) for key in list(SAVED)[::2]]
+    changes += [Change(b"gone", b"x"), Change(b"over", b"x"), *(Change(key, state.value, state.earliest) for key, state in SAVED.items())]
+    changes += [Change(b"gone"), Change(b"never there"), Change(b"over", b"y", 1)]
+    for stripes, most in itertools.product((1, 4, 64), (1, 200, fmt.BATCH_BYTES)):
+        file = folder / f"sound, {stripes} stripes, batches of {most} bytes.db"
+        batches = [batch._replace(number=batch.number ** 2) for batch in fmt.batches_of(changes, stripes, most)]
+        fmt.make(file, [*batches, Batch(10 ** 9, 0, b"")], stripes)
+        found = entries_by_sql(file)
+        same("the entry that is over, by SQL", found.pop(b"over"), State(b"y", 1, 1))
+        same("the entries by SQL", found, SAVED)
+        same("what --kept says", report_of(given, file), None)
+        check_all(given, file, SAVED, Known(), "--stripes", "4")
+
+
+def cut_batches(given: argparse.Namespace, folder: Path) -> None:
+    """A batch that is cut at each of its bytes: it is sound if it ends with a change."""
+    whole = b"".join(map(fmt.spelled, SOUND))
+    ends = {0, *itertools.accumulate(len(fmt.spelled(change)) for change in SOUND)}
+    for end in range(len(whole) + 1):
+        file = fmt.make(folder / f"cut at {end}.db", [Batch(1, 0, whole[:end])])
+        line = None if end in ends else DAMAGED
+        same(f"what is said of a batch that ends at {end}", (report_of(given, file), refusal_of(given, file)), (line, line))
 
 
 def serves_truly(given: argparse.Namespace, file: Path, seen: dict[bytes, list[State]], known: Known) -> bool:
@@ -373,28 +548,25 @@ def damaged(given: argparse.Namespace, folder: Path) -> None:
 
 def other_files(given: argparse.Namespace, file: Path, folder: Path, seen: dict[bytes, list[State]], known: Known) -> None:
     """A file of another kind is refused, and keeps what it has; an empty one becomes a new one."""
-    text, other, newer, empty = (folder / name for name in ("text.db", "other.db", "newer.db", "empty.db"))
+    text, other, empty = (folder / name for name in ("text.db", "other.db", "empty.db"))
     text.write_bytes(b"no database, but a text of some length\n" * 100)
     with contextlib.closing(sqlite3.connect(other)) as data, data:
-        data.execute("create table entries (id integer primary key, note text)")
-        data.execute("insert into entries (note) values ('mine')")
-    shutil.copy(file, newer)
-    with contextlib.closing(sqlite3.connect(newer)) as data, data:
-        same("the settings that were changed", data.execute("update settings set value = value + 1 where name = 'format'").rowcount, 1)
-    for name in (text, other, newer, folder, folder / "no folder" / "map.db"):
+        data.execute("create table batches (number integer primary key, note text)")
+        data.execute("insert into batches (note) values ('mine')")
+    for name in (text, other, folder, folder / "no folder" / "map.db"):
         same(f"{name.name} is taken", serves_truly(given, name, {}, Known()), False)
     same("the text", text.read_bytes()[:20], b"no database, but a t")
     with contextlib.closing(sqlite3.connect(other)) as data:
-        same("the other entries", data.execute("select note from entries").fetchall(), [("mine",)])
+        same("the other batches", data.execute("select note from batches").fetchall(), [("mine",)])
     empty.touch()
     same("an empty file is taken", serves_truly(given, empty, {}, Known()), True)
     same("the file itself is taken", serves_truly(given, file, seen, known), True)
 
 
 # What sqlite3 adds to a file that has our tables, and what it changes in their texts.
-ADDED = ["create index more on entries (value)", "create view more as select key from entries", "create table more (x)",
-         "create trigger more after delete on entries begin delete from settings; end"]
-CHANGED = [(") STRICT", ") strict"), ("deadline INTEGER", "deadline INTEGER CHECK (deadline > 0)")]
+ADDED = ["create index more on batches (stripe)", "create view more as select changes from batches", "create table more (x)",
+         "create trigger more after delete on batches begin delete from settings; end"]
+CHANGED = [(") STRICT", ") strict"), ("stripe INTEGER NOT NULL", "stripe INTEGER NOT NULL CHECK (stripe >= 0)")]
 
 
 def like_ours(file: Path, folder: Path, given: argparse.Namespace) -> None:
@@ -402,6 +574,7 @@ def like_ours(file: Path, folder: Path, given: argparse.Namespace) -> None:
     own = folder / "made by sqlite3"
     with contextlib.closing(sqlite3.connect(copied(file, own))) as data:
         texts = [text for text, in data.execute("select sql from sqlite_schema where sql is not null order by rowid")]
+    same("the tables of a new file", texts, list(fmt.TABLES[fmt.FORMAT]))
     lists = [texts, texts[::-1], texts[1:], *(texts + [more] for more in ADDED)]
     lists += [[text.replace(*change) for text in texts] for change in CHANGED]
     for number, made in enumerate(lists):
@@ -410,7 +583,7 @@ def like_ours(file: Path, folder: Path, given: argparse.Namespace) -> None:
             for text in made:
                 data.execute(text)
             if any("TABLE settings" in text for text in made):
-                data.execute("insert into settings (name, value) values ('format', 1), ('stripes', 1)")
+                data.execute("insert into settings (name, value) values ('format', ?), ('stripes', 1)", (fmt.FORMAT,))
         same(f"a file made by {made} is taken", serves_truly(given, name, {}, Known()), made == texts)
 
 
@@ -520,7 +693,7 @@ def full_disk(given: argparse.Namespace, file: Path) -> None:
             client.ask("SAVE")
             same("SAVE when there is room", client.ask("SAVE"), resp.OK)
         server.kill()
-    check_by_sqlite(file)
+    entries_by_sql(file)
     check_all(given, file, {**large, b"meanwhile": State(b"x")}, Known())
 
 
@@ -562,7 +735,7 @@ def asked(given: argparse.Namespace, folder: Path) -> None:
     check_all(given, file, {b"a": State(b"1"), b"b": State(b"2")}, Known())
 
 
-PARTS = {part.__name__: part for part in (killed, ended, damaged, hindered, asked)}
+PARTS = {part.__name__: part for part in (killed, ended, bounded, upgraded, foreign, damaged, hindered, asked)}
 
 
 def main() -> int:
@@ -571,6 +744,7 @@ def main() -> int:
     parser.add_argument("--rounds", type=int, default=20, help="how often a server is killed")
     parser.add_argument("--bits", type=int, default=40, help="how often bits of a file are changed")
     parser.add_argument("--step", type=int, default=512, help="the bytes between two places at which a file is cut")
+    parser.add_argument("--turns", type=int, default=30, help="how often all of a few keys change, and are saved")
     parser.add_argument("--large", type=int, default=5000, help="how many large entries are to find the disk full")
     parser.add_argument("--seed", type=int, default=1, help="where the dice begin")
     parser.add_argument("part", nargs="*", help=f"these parts alone: {', '.join(PARTS)}")
