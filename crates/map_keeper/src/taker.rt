@@ -112,11 +112,7 @@ fn write_full<S: Alter>(
 }
 
 /// Writes the batch, if it has changes.
-fn write_left<S: Alter>(
-    stripe: u64,
-    batch: &Batch,
-    save: &mut Save<'_, S>,
-) -> Result<(), KeepFault>
+fn write_left<S: Alter>(stripe: u64, batch: &Batch, save: &mut Save<'_, S>) -> Result<(), KeepFault>
     ensures same_reference { save.new.conn.ghost_name ≡ save.old.conn.ghost_name }
     ensures wrote { HasCleanDisk (state S.Store save.new.conn.now) → OnOk result ((rows : _) (start : _) → Pending (state S.Store) stripe rows batch.now.bytes.items start save.old.conn.now
         → WritesRows (state S.Store) stripe rows start save.new.conn.now) }
