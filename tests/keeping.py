@@ -5,6 +5,7 @@
     save, or longer ago than the saves are apart and take; nothing is there that never was, and each key is what it was at one moment.
     Programs have their numbers, scripts their names, and sqlite3 finds no fault in the file. docs/entries.sql finds what its batches have.
   - ended: after the last session, or SHUTDOWN, nothing is missing, with another number of stripes too.
+  - appended: a save appends just what changed since the one before.
   - bounded: many changes of few keys, and the file doesn't get longer and longer.
   - upgraded: a file of format 1 is refused, and the client in Python makes one of it that is taken.
   - foreign: files whose batches Python made. Sound ones are taken, and each fault in a batch is refused by its own line.
@@ -338,6 +339,31 @@ def backed_up(given: argparse.Namespace, folder: Path) -> None:
 FEW_KEYS = [b"few %d" % number for number in range(8000)]
 # Twice what the entries need, 65,536, and those of two saves.
 MOST_CHANGES = 4 * len(FEW_KEYS) + (1 << 16)
+
+
+def sizes_of(file: Path) -> tuple[int, list[int]]:
+    """How many changes the file has, and how many bytes each batch has, in their order."""
+    with opened_copy(file) as data:
+        lengths = [length for (length,) in data.execute("select length(changes) from batches order by number")]
+        return sum(1 for _ in fmt.changes_of(data)), lengths
+
+
+def appended(given: argparse.Namespace, folder: Path) -> None:
+    """A save appends just what changed since the last one, and all but the last batch of a stripe are full."""
+    file, stripes = folder / "map.db", 4
+    with kept(given.program, file, "--stripes", str(stripes), "--keep-seconds", "3600") as server, resp.Client(server.redis) as client:
+        fill(server, {key: State(b"first") for key in FEW_KEYS})
+        same("SAVE", client.ask("SAVE"), resp.OK)
+        first, lengths = sizes_of(file)
+        same("the changes after the first save", first, len(FEW_KEYS))
+        same("how many batches aren't full", sum(length < fmt.BATCH_BYTES for length in lengths) <= stripes < len(lengths), True)
+        client.ask("SET", "new", "value")
+        client.ask("DEL", FEW_KEYS[0])
+        same("SAVE", client.ask("SAVE"), resp.OK)
+        second, longer = sizes_of(file)
+        same("the changes after the second save", second - first, 2)
+        same("the batches of the first save", longer[:len(lengths)], lengths)
+    print(f"appended: {first} changes in {len(lengths)} batches, and then {second - first} in {len(longer) - len(lengths)}")
 
 
 def bounded(given: argparse.Namespace, folder: Path) -> None:
@@ -735,7 +761,7 @@ def asked(given: argparse.Namespace, folder: Path) -> None:
     check_all(given, file, {b"a": State(b"1"), b"b": State(b"2")}, Known())
 
 
-PARTS = {part.__name__: part for part in (killed, ended, bounded, upgraded, foreign, damaged, hindered, asked)}
+PARTS = {part.__name__: part for part in (killed, ended, appended, bounded, upgraded, foreign, damaged, hindered, asked)}
 
 
 def main() -> int:
