@@ -20,6 +20,9 @@ use std::time::Duration;
 /// How often it is looked whether somebody asks for a save, in milliseconds.
 const LOOK_MILLIS: u64 = 100;
 
+/// A save that nobody waits for rests this long after each batch that it writes, in milliseconds, so that clients have the processors.
+const REST_MILLIS: u64 = 1;
+
 /// What a server works with: the runtime, the allocator, and the machine's files and ports.
 #[derive(Drop)]
 pub(crate) struct Host<'a, H, K> {
@@ -142,6 +145,14 @@ pub(crate) fn tell_fault_of_file<E: Sink>(
     tell_line(errors, line, b"the map is not restored\n");
 }
 
+/// How long a save rests after each batch: not at all if somebody waits for it.
+fn rest_of(is_asked: bool) -> Duration {
+    if is_asked {
+        return Duration::ZERO;
+    }
+    Duration::from_millis(REST_MILLIS)
+}
+
 /// Tells that the workers have ended.
 #[derive(Drop)]
 pub(crate) struct Bell {
@@ -183,16 +194,16 @@ pub(crate) struct Saver<'a, 'b, 'c, 's, 'r, H: Wait + Clock, E: Sink> {
 }
 
 impl<H: Wait + Clock, E: Sink> Saver<'_, '_, '_, '_, '_, H, E> {
-    /// Saves once, and tells those who wait for a save. Standard error is told if the save fails and the one before it didn't, or the
-    /// other way round. Returns whether it fails.
-    fn save(&self, kept: &mut Kept<'_>, was_failing: bool) -> bool
+    /// Saves once, with a rest of this length after each batch, and tells those who wait for a save. Standard error is told if the save
+    /// fails and the one before it didn't, or the other way round. Returns whether it fails.
+    fn save(&self, kept: &mut Kept<'_>, was_failing: bool, rest: Duration) -> bool
         requires { (pass_of kept.old.keeper).map ≡ self.now.shared.now.map.now }
         ensures { (pass_of kept.new.keeper).map ≡ self.now.shared.now.map.now }
     {
         let entrance = self.entrance;
         let (rt, state) = (entrance.arrivals.rt, entrance.state);
         let ticket = state.save_asked();
-        let fault = match kept.keeper.save(rt, self.shared) {
+        let fault = match kept.keeper.save(rt, self.shared, rest) {
             Ok(()) => {
                 if was_failing {
                     self.tell(going_on_line(self.alloc, kept.path), b"saves go on\n");
@@ -236,9 +247,10 @@ impl<H: Wait + Clock, E: Sink> Saver<'_, '_, '_, '_, '_, H, E> {
             }
             stopwatch.look();
             let asked = state.save_asked();
-            if asked != heard || stopwatch.now() >= next {
+            let is_asked = asked != heard;
+            if is_asked || stopwatch.now() >= next {
                 heard = asked;
-                is_failing = self.save(kept, is_failing);
+                is_failing = self.save(kept, is_failing, rest_of(is_asked));
                 stopwatch.look();
                 next = stopwatch.now().saturating_add(period);
             }
@@ -254,7 +266,7 @@ impl<H: Wait + Clock, E: Sink> Saver<'_, '_, '_, '_, '_, H, E> {
         let mut kept = kept;
         let mut has_failed = self.save_on(&mut kept, bell);
         if self.entrance.state.saves_at_end() {
-            has_failed = self.save(&mut kept, has_failed);
+            has_failed = self.save(&mut kept, has_failed, Duration::ZERO);
         }
         match kept.keeper.close() {
             Ok(()) => has_failed,

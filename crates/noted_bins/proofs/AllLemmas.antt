@@ -49,7 +49,7 @@ weighs weight (entry ∷ entries) lt =
     ]
 
 -- an entry that one of two lists has, the other has too, if they weigh the same
-moved : (one other : List Entry) → ((weight : Entry → ℕ) → sum_by weight one ≡ sum_by weight other) → (k : ℕ) → k < length one
+pub moved : (one other : List Entry) → ((weight : Entry → ℕ) → sum_by weight one ≡ sum_by weight other) → (k : ℕ) → k < length one
     → (j : ℕ) × ((j < length other) × ((entry_of other j).0 ≡ (entry_of one k).0) × ((entry_of other j).1 ≡ (entry_of one k).1))
 moved one other same k lt =
     let entry : Entry = entry_of one k in
@@ -80,7 +80,7 @@ module _ (table : Table) (copies : List Entry) (are : AreCopies table copies) wh
       ap (map.get table) (sym place.1.1) ∙ there ∙ ap (λ (v : List ℕ). Some v) place.1.2
 
 -- the place of an entry that is found
-found_at : (key value : List ℕ) (entries : List Entry) → find by_bytes key entries ≡ Some value → (j : ℕ) × ((j < length entries) × ((entry_of entries j).0 ≡ key))
+pub found_at : (key value : List ℕ) (entries : List Entry) → find by_bytes key entries ≡ Some value → (j : ℕ) × ((j < length entries) × ((entry_of entries j).0 ≡ key))
 found_at key value [] e = absurd cc
 found_at key value (entry ∷ entries) e = by_test (same_key key entry.0) refl (found_at key value entries) e
   where

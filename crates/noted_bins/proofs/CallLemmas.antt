@@ -1,6 +1,6 @@
 -- What a call, an expiry or a replacement leaves of each key.
-use Rattle.std.proofs.Common.{◌≡◌, ◌≢◌, ℕ, Bool, true, false, List, Option, Some, None, refl, sym, ap, subst, ◌∙◌, inl, inr}
-use Rattle.std.specs.Prelude.{option_map, if◌then◌else◌}
+use Rattle.std.proofs.Common.{◌≡◌, ◌≢◌, ℕ, Bool, true, false, cond, List, Option, Some, None, refl, sym, ap, subst, ◌∙◌, inl, inr}
+use Rattle.std.specs.Prelude.{option_map, is_some as is_there, if◌then◌else◌}
 use Rattle.std.specs.FinMap as map
 use Rattle.bins.specs.Table.{Table}
 use Rattle.atomic_methods.specs.Invocations.{Invocation, Method, get}
@@ -13,9 +13,10 @@ use Rattle.timed_bins.specs.declared.timing.Timing.{Timing}
 use Rattle.timed_bins.specs.declared.timing.TimedReply.{TimedReply}
 use Rattle.timed_bins.specs.Deadlines.{TimedTable, CallsWith, MakesCall, RefusesCall, TakesIfOver, change_of, deadline_after}
 use Rattle.noted_bins.specs.Hands.{LeavesSame}
-use Rattle.noted_bins.specs.Notes.{NotedKeys, NotesChanges, NotesKey, is_noted}
-use Rattle.noted_bins.specs.Rows.{row_of}
-use Rattle.noted_bins.proofs.KeyLemmas.{same_or_not}
+use Rattle.noted_bins.specs.Filters.{may_have}
+use Rattle.noted_bins.specs.Notes.{NotedKeys, NotesChanges, NotesKey, has_entry, is_noted}
+use Rattle.noted_bins.specs.Rows.{Saved, row_of}
+use Rattle.noted_bins.proofs.KeyLemmas.{not_noted, same_or_not, unnoted}
 use Rattle.noted_bins.proofs.TableLemmas.{beside, beside_gone, here}
 
 abbrev dated : Option ℕ → List ℕ → List ℕ × Option ℕ
@@ -52,14 +53,29 @@ refused_same None old new invocation refused key = ap (λ (t : TimedTable). row_
 refused_same (Some timing) old new invocation refused key =
     same_row old new key (ap (λ (t : Table). map.get t key) refused.tells.table) (refused.tells.deadlines key)
 
+there_by_row : (table : TimedTable) (key : List ℕ) → is_there (row_of table key) ≡ has_entry table.table key
+there_by_row table key = by_entry (map.get table.table key)
+  where
+    by_entry : (value : Option (List ℕ)) → is_there (option_map (dated (table.deadline key)) value) ≡ is_there value
+    by_entry None = refl
+    by_entry (Some value) = refl
+
+-- a key with the row that it had is noted if it was
+same_noted : (notes : NotedKeys) (old new : TimedTable) (key : List ℕ) → row_of new key ≡ row_of old key → is_noted notes new.table key ≡ false → is_noted notes old.table key ≡ false
+same_noted notes old new key row e =
+    let there : has_entry new.table key ≡ has_entry old.table key = sym (there_by_row new key) ∙ ap (λ (saved : Saved). is_there saved) row ∙ there_by_row old key in
+    let why = unnoted notes new.table key e in
+    not_noted notes old.table key why.0 why.1.0 (ap (λ (b : Bool). cond (may_have notes.filter key) b false) (sym there) ∙ why.1.1)
+
 -- the key was noted, and others have the rows that they had
-noted_change : (old_notes new_notes : NotedKeys) (old new : TimedTable) (at : List ℕ) → NotesKey old_notes at new_notes
-    → ((key : List ℕ) → key ≢ at → row_of new key ≡ row_of old key) → NotesChanges (is_noted old_notes) old (is_noted new_notes) new
-noted_change old_notes new_notes old new at notes others key e = let known = notes key e in (known.0, others key known.1)
+noted_change : (old_notes new_notes : NotedKeys) (old new : TimedTable) (at : List ℕ) → NotesKey new.table old_notes at new_notes
+    → ((key : List ℕ) → key ≢ at → row_of new key ≡ row_of old key) → NotesChanges (is_noted old_notes old.table) old (is_noted new_notes new.table) new
+noted_change old_notes new_notes old new at notes others key e =
+    let known = notes key e in let row = others key known.1 in (same_noted old_notes old new key row known.0, row)
 
 -- nothing is noted, and all rows are as they were
-no_change : (notes : NotedKeys) (old new : TimedTable) → ((key : List ℕ) → row_of new key ≡ row_of old key) → NotesChanges (is_noted notes) old (is_noted notes) new
-no_change notes old new same key e = (e, same key)
+no_change : (notes : NotedKeys) (old new : TimedTable) → ((key : List ℕ) → row_of new key ≡ row_of old key) → NotesChanges (is_noted notes old.table) old (is_noted notes new.table) new
+no_change notes old new same key e = (same_noted notes old new key (same key) e, same key)
 
 -- a row whose deadline stays if there is an entry
 row_kept : (value : Option (List ℕ)) (reached : Bool) (before after : Option ℕ) → after ≡ deadline_after Keep reached before value
@@ -108,22 +124,22 @@ read_only (Some timing) old new invocation timed bytes reads made same =
 
 -- a key was taken away and noted
 pub expired_change : (old_notes new_notes : NotedKeys) (old new : TimedTable) (at : List ℕ) (now : ℕ) (was_over : Bool) → TakesIfOver old at now was_over new
-    → NotesKey old_notes at new_notes → NotesChanges (is_noted old_notes) old (is_noted new_notes) new
+    → NotesKey new.table old_notes at new_notes → NotesChanges (is_noted old_notes old.table) old (is_noted new_notes new.table) new
 expired_change old_notes new_notes old new at now was_over takes notes = noted_change old_notes new_notes old new at notes (taken_beside old new at now was_over takes)
 
 -- a call was made, and its key was noted
 pub made_change : (timing : Option Timing) (old_notes new_notes : NotedKeys) (old new : TimedTable) (invocation : Invocation) (timed : TimedReply) (bytes : List ℕ)
-    → MakesCall timing old invocation timed bytes new → NotesKey old_notes invocation.key new_notes → NotesChanges (is_noted old_notes) old (is_noted new_notes) new
+    → MakesCall timing old invocation timed bytes new → NotesKey new.table old_notes invocation.key new_notes → NotesChanges (is_noted old_notes old.table) old (is_noted new_notes new.table) new
 made_change timing old_notes new_notes old new invocation timed bytes made notes =
     noted_change old_notes new_notes old new invocation.key notes (made_beside timing old new invocation timed bytes made)
 
 -- a call was refused, and nothing was noted
 pub refused_change : (timing : Option Timing) (notes : NotedKeys) (old new : TimedTable) (invocation : Invocation) → RefusesCall timing old invocation new
-    → NotesChanges (is_noted notes) old (is_noted notes) new
+    → NotesChanges (is_noted notes old.table) old (is_noted notes new.table) new
 refused_change timing notes old new invocation refused = no_change notes old new (refused_same timing old new invocation refused)
 
 -- a call only read, and nothing was noted
 pub read_change : (timing : Option Timing) (notes : NotedKeys) (old new : TimedTable) (invocation : Invocation) (timed : TimedReply) (bytes : List ℕ)
-    → MakesCall timing old invocation timed bytes new → invocation.method ≡ get → LeavesSame timing timed → NotesChanges (is_noted notes) old (is_noted notes) new
+    → MakesCall timing old invocation timed bytes new → invocation.method ≡ get → LeavesSame timing timed → NotesChanges (is_noted notes old.table) old (is_noted notes new.table) new
 read_change timing notes old new invocation timed bytes made reads same =
     no_change notes old new (read_only timing old new invocation timed bytes reads made same)

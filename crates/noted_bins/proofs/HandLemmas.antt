@@ -1,21 +1,22 @@
 -- Rows of some noted keys, one after another.
-use Rattle.std.proofs.Common.{◌≡◌, ℕ, Bool, true, false, cond, List, [], ◌∷◌, ◌++◌, append_assoc, refl, sym, ap, ◌∙◌, ◌⊎◌, inl, inr}
+use Rattle.std.proofs.Common.{◌≡◌, ℕ, Bool, true, false, cond, List, [], ◌∷◌, ◌++◌, append_assoc, Result, Ok, Err, OnOk, refl, sym, ap, ◌∙◌, ◌⊎◌, inl, inr}
+use Rattle.std.specs.Prelude.{OnErr, is_err}
 use Rattle.std.proofs.lemmas.List.Elements.{All-nil, All-cons, All-append}
 use Rattle.bins.proofs.DistinctEntries.{same_itself, differ}
 use Rattle.timed_bins.specs.Deadlines.{TimedTable}
 use Rattle.noted_bins.specs.declared.taken.Taken.TheVariants.{All as AllTaken, Some as SomeTaken, Rest}
 use Rattle.noted_bins.specs.Hands.{HandsOut}
-use Rattle.noted_bins.specs.Notes.{NotedKeys, TakesChanges, has_key, is_noted, is_some}
+use Rattle.noted_bins.specs.Notes.{NotedKeys, TakesChanges, has_key, is_filtered, is_noted, is_some}
 use Rattle.noted_bins.specs.Rows.{Row, has_row, row_of, same_key}
-use Rattle.noted_bins.specs.Taking.{HandsOutAll}
-use Rattle.noted_bins.proofs.KeyLemmas.{either_false, neither, not_in, same_or_not}
+use Rattle.noted_bins.specs.Taking.{HandsOutAll, HandsOutFiltered, HandsOutPresent}
+use Rattle.noted_bins.proofs.KeyLemmas.{either_false, not_in, not_noted, same_or_not, unnoted}
 
 -- nothing was handed out
 pub hands_none : (notes : NotedKeys) (table : TimedTable) → notes.all ≡ false → HandsOut notes table [] notes
 hands_none notes table all = record { all = all; present = All-nil (λ (row : Row). row.1 ≡ row_of table row.0); known = λ key e. inr e }
 
 -- a row at the end
-row_before : (rows : List Row) (row : Row) (key : List ℕ) → has_row rows key ≡ true → has_row (rows ++ row ∷ []) key ≡ true
+pub row_before : (rows : List Row) (row : Row) (key : List ℕ) → has_row rows key ≡ true → has_row (rows ++ row ∷ []) key ≡ true
 row_before [] row key e = absurd cc
 row_before (one ∷ rows) row key e = by_test (same_key key one.0) (row_before rows row key) e
   where
@@ -24,7 +25,7 @@ row_before (one ∷ rows) row key e = by_test (same_key key one.0) (row_before r
     by_test true more e = refl
     by_test false more e = more e
 
-row_itself : (rows : List Row) (row : Row) → has_row (rows ++ row ∷ []) row.0 ≡ true
+pub row_itself : (rows : List Row) (row : Row) → has_row (rows ++ row ∷ []) row.0 ≡ true
 row_itself [] row = rw (same_itself row.0) refl
 row_itself (one ∷ rows) row = by_test (same_key row.0 one.0) (row_itself rows row)
   where
@@ -32,10 +33,29 @@ row_itself (one ∷ rows) row = by_test (same_key row.0 one.0) (row_itself rows 
     by_test true rest = refl
     by_test false rest = rest
 
+-- rows before and after others
+rows_before : (rows more : List Row) (key : List ℕ) → has_row rows key ≡ true → has_row (rows ++ more) key ≡ true
+rows_before [] more key e = absurd cc
+rows_before (one ∷ rows) more key e = by_test (same_key key one.0) (rows_before rows more key) e
+  where
+    by_test : (b : Bool) → (has_row rows key ≡ true → has_row (rows ++ more) key ≡ true) → cond b true (has_row rows key) ≡ true
+        → cond b true (has_row (rows ++ more) key) ≡ true
+    by_test true rest e = refl
+    by_test false rest e = rest e
+
+rows_after : (rows more : List Row) (key : List ℕ) → has_row more key ≡ true → has_row (rows ++ more) key ≡ true
+rows_after [] more key e = e
+rows_after (one ∷ rows) more key e = by_test (same_key key one.0) (rows_after rows more key e)
+  where
+    by_test : (b : Bool) → has_row (rows ++ more) key ≡ true → cond b true (has_row (rows ++ more) key) ≡ true
+    by_test true rest = refl
+    by_test false rest = rest
+
 -- one more row was handed out, of the key at the end
 hands_more : (old : NotedKeys) (table : TimedTable) (rows : List Row) (between new : NotedKeys) (rest : List (List ℕ)) (key : List ℕ)
-    → HandsOut old table rows between → between.keys ≡ rest ++ key ∷ [] → new.all ≡ between.all → new.keys ≡ rest → HandsOut old table (rows ++ (key, row_of table key) ∷ []) new
-hands_more old table rows between new rest key hands keys all left = record {
+    → HandsOut old table rows between → between.keys ≡ rest ++ key ∷ [] → new.all ≡ between.all → new.filter ≡ between.filter → new.keys ≡ rest
+    → HandsOut old table (rows ++ (key, row_of table key) ∷ []) new
+hands_more old table rows between new rest key hands keys all filter left = record {
   all = all ∙ hands.all;
   present = All-append (λ (row : Row). row.1 ≡ row_of table row.0) rows ((key, row_of table key) ∷ []) hands.present
       (All-cons (λ (row : Row). row.1 ≡ row_of table row.0) (key, row_of table key) [] refl (All-nil (λ (row : Row). row.1 ≡ row_of table row.0)));
@@ -45,15 +65,16 @@ hands_more old table rows between new rest key hands keys all left = record {
     row : Row
     row = (key, row_of table key)
 
-    known : (other : List ℕ) → is_noted new other ≡ false → (has_row (rows ++ row ∷ []) other ≡ true) ⊎ (is_noted old other ≡ false)
+    known : (other : List ℕ) → is_noted new table.table other ≡ false → (has_row (rows ++ row ∷ []) other ≡ true) ⊎ (is_noted old table.table other ≡ false)
     known other e = elim (same_or_not other key) [
       | inl same ↦ inl (ap (has_row (rows ++ row ∷ [])) same ∙ row_itself rows row)
       | inr apart ↦
-          let outer = neither new.all (has_key new.keys other) e in
-          let in_rest : has_key rest other ≡ false = ap (λ (ks : List (List ℕ)). has_key ks other) (sym left) ∙ outer.1 in
+          let why = unnoted new table.table other e in
+          let in_rest : has_key rest other ≡ false = ap (λ (ks : List (List ℕ)). has_key ks other) (sym left) ∙ why.1.0 in
           let alone : has_key (key ∷ []) other ≡ false = either_false (same_key other key) false (differ other key apart) refl in
           let in_between : has_key between.keys other ≡ false = ap (λ (ks : List (List ℕ)). has_key ks other) keys ∙ not_in rest (key ∷ []) other in_rest alone in
-          elim (hands.known other (either_false between.all (has_key between.keys other) hands.all in_between)) [
+          let filtered : is_filtered between.filter table.table other ≡ false = ap (λ (f : List Bool). is_filtered f table.table other) (sym filter) ∙ why.1.1 in
+          elim (hands.known other (not_noted between table.table other hands.all in_between filtered)) [
             | inl has ↦ inl (row_before rows row other has)
             | inr before ↦ inr before
           ]
@@ -62,41 +83,99 @@ hands_more old table rows between new rest key hands keys all left = record {
 -- one more row was added to the changes
 pub handed_more : (first changes more : List Row) (old between new : NotedKeys) (table : TimedTable) (key : List ℕ)
     → ((rows : List Row) × ((changes ≡ first ++ rows) × HandsOut old table rows between)) → ((rest : List (List ℕ)) × (between.keys ≡ rest ++ key ∷ []))
-    → more ≡ changes ++ (key, row_of table key) ∷ [] → new.all ≡ between.all → ((rest : List (List ℕ)) (k : List ℕ) → between.keys ≡ rest ++ k ∷ [] → new.keys ≡ rest)
+    → more ≡ changes ++ (key, row_of table key) ∷ [] → new.all ≡ between.all → new.filter ≡ between.filter
+    → ((rest : List (List ℕ)) (k : List ℕ) → between.keys ≡ rest ++ k ∷ [] → new.keys ≡ rest)
     → (rows : List Row) × ((more ≡ first ++ rows) × HandsOut old table rows new)
-handed_more first changes more old between new table key before end added all left =
+handed_more first changes more old between new table key before end added all filter left =
     let row : Row = (key, row_of table key) in (
       before.0 ++ row ∷ [],
       (
         added ∙ ap (λ (rows : List Row). rows ++ row ∷ []) before.1.0 ∙ append_assoc first before.0 (row ∷ []),
-        hands_more old table before.0 between new end.0 key before.1.1 end.1 all (left end.0 key end.1),
+        hands_more old table before.0 between new end.0 key before.1.1 end.1 all filter (left end.0 key end.1),
       ),
     )
 
--- none is left
-pub took_rest : (old new : NotedKeys) (table : TimedTable) (rows : List Row) → HandsOut old table rows new → new.keys ≡ []
-    → TakesChanges (is_noted old) table Rest rows (is_noted new) table
-took_rest old new table rows hands none = record {
-  same = refl;
-  present = hands.present;
-  known = hands.known;
-  none = λ _ key. either_false new.all (has_key new.keys key) hands.all (ap (λ (ks : List (List ℕ)). has_key ks key) none);
-}
+-- none is noted
+none_noted : (new : NotedKeys) (table : TimedTable) → new.all ≡ false → new.keys ≡ [] → new.filter ≡ [] → (key : List ℕ) → is_noted new table.table key ≡ false
+none_noted new table all none off key =
+    not_noted new table.table key all (ap (λ (ks : List (List ℕ)). has_key ks key) none) (ap (λ (f : List Bool). is_filtered f table.table key) off)
 
--- some may be left
-pub took_some : (old new : NotedKeys) (table : TimedTable) (rows : List Row) → HandsOut old table rows new
-    → TakesChanges (is_noted old) table SomeTaken rows (is_noted new) table
-took_some old new table rows hands = record {
+pub noted_or_not : (b : Bool) → (b ≡ true) ⊎ (b ≡ false)
+noted_or_not true = inl refl
+noted_or_not false = inr refl
+
+-- what was told by whether it failed
+pub if_err : {T E P : Type 0} (r : Result T E) → true ≡ is_err r → OnErr r P → P
+if_err (Ok x) e told = absurd cc
+if_err (Err x) e told = told
+
+pub if_ok : {T E P : Type 0} (r : Result T E) → false ≡ is_err r → OnOk r P → P
+if_ok (Ok x) e told = told
+if_ok (Err x) e told = absurd cc
+
+-- the rows of the lists were handed out, and those that the filter may have
+pub took_rest : (old between new : NotedKeys) (table : TimedTable) (first changes more : List Row)
+    → ((rows : List Row) × ((changes ≡ first ++ rows) × HandsOut old table rows between)) → between.keys ≡ [] → HandsOutFiltered table between.filter changes more
+    → new.all ≡ false → new.keys ≡ [] → new.filter ≡ []
+    → (rows : List Row) × ((more ≡ first ++ rows) × TakesChanges (is_noted old table.table) table Rest rows (is_noted new table.table) table)
+took_rest old between new table first changes more before empty hands all none off = (
+  rows,
+  (
+    hands.handed.added ∙ ap (λ (rs : List Row). rs ++ hands.handed.rows) before.1.0 ∙ append_assoc first before.0 hands.handed.rows,
+    record {
+      same = refl;
+      present = All-append (λ (row : Row). row.1 ≡ row_of table row.0) before.0 hands.handed.rows before.1.1.present hands.handed.present;
+      known = λ key e. known key;
+      none = λ _ key. none_noted new table all none off key;
+    },
+  ),
+)
+  where
+    rows : List Row
+    rows = before.0 ++ hands.handed.rows
+
+    known : (key : List ℕ) → (has_row rows key ≡ true) ⊎ (is_noted old table.table key ≡ false)
+    known key = elim (noted_or_not (is_filtered between.filter table.table key)) [
+      | inl filtered ↦ inl (rows_after before.0 hands.handed.rows key (hands.known key filtered))
+      | inr apart ↦
+          elim (before.1.1.known key (not_noted between table.table key before.1.1.all (ap (λ (ks : List (List ℕ)). has_key ks key) empty) apart)) [
+            | inl has ↦ inl (rows_before before.0 hands.handed.rows key has)
+            | inr not ↦ inr not
+          ]
+    ]
+
+some_left : (old new : NotedKeys) (table : TimedTable) (rows : List Row) → HandsOut old table rows new
+    → TakesChanges (is_noted old table.table) table SomeTaken rows (is_noted new table.table) table
+some_left old new table rows hands = record {
   same = refl;
   present = hands.present;
   known = hands.known;
   none = λ no. absurd (let yes : is_some SomeTaken ≡ true = refl in cc);
 }
 
+-- some may be left in the filter
+pub took_part : (old new : NotedKeys) (table : TimedTable) (first changes more : List Row) → ((rows : List Row) × ((changes ≡ first ++ rows) × HandsOut old table rows new))
+    → HandsOutPresent table changes more
+    → (rows : List Row) × ((more ≡ first ++ rows) × TakesChanges (is_noted old table.table) table SomeTaken rows (is_noted new table.table) table)
+took_part old new table first changes more before hands = (
+  before.0 ++ hands.rows,
+  (
+    hands.added ∙ ap (λ (rs : List Row). rs ++ hands.rows) before.1.0 ∙ append_assoc first before.0 hands.rows,
+    some_left old new table (before.0 ++ hands.rows) (record {
+      all = before.1.1.all;
+      present = All-append (λ (row : Row). row.1 ≡ row_of table row.0) before.0 hands.rows before.1.1.present hands.present;
+      known = λ key e. elim (before.1.1.known key e) [
+        | inl has ↦ inl (rows_before before.0 hands.rows key has)
+        | inr not ↦ inr not
+      ];
+    }),
+  ),
+)
+
 -- all entries were taken
-pub took_all : (old new : NotedKeys) (table : TimedTable) (before after : List Row) → HandsOutAll table before after → new.all ≡ false → new.keys ≡ []
-    → (rows : List Row) × ((after ≡ before ++ rows) × TakesChanges (is_noted old) table AllTaken rows (is_noted new) table)
-took_all old new table before after hands all none = (
+pub took_all : (old new : NotedKeys) (table : TimedTable) (before after : List Row) → HandsOutAll table before after → new.all ≡ false → new.keys ≡ [] → new.filter ≡ []
+    → (rows : List Row) × ((after ≡ before ++ rows) × TakesChanges (is_noted old table.table) table AllTaken rows (is_noted new table.table) table)
+took_all old new table before after hands all none off = (
   hands.rows,
   (
     hands.added,
@@ -104,7 +183,7 @@ took_all old new table before after hands all none = (
       same = refl;
       present = hands.present;
       known = λ key e. hands.known key;
-      none = λ _ key. either_false new.all (has_key new.keys key) all (ap (λ (ks : List (List ℕ)). has_key ks key) none);
+      none = λ _ key. none_noted new table all none off key;
     },
   ),
 )

@@ -3,7 +3,9 @@ use Rattle.std.proofs.Common.{◌≡◌, ◌≢◌, ℕ, zero, suc, ◌<◌, ◌
 use Rattle.std.specs.Str.{bytes_eq}
 use Rattle.std.proofs.lemmas.Map.Text.{is_eq-slice_cmp}
 use Rattle.bins.proofs.DistinctEntries.{same_itself, alike}
-use Rattle.noted_bins.specs.Notes.{NotedKeys, NotesKey, has_key, is_noted}
+use Rattle.bins.specs.Table.{Table}
+use Rattle.noted_bins.specs.Filters.{may_have}
+use Rattle.noted_bins.specs.Notes.{NotedKeys, KeepsNoted, NotesKey, has_entry, has_key, is_filtered, is_noted}
 use Rattle.noted_bins.specs.Rows.{same_key}
 
 -- a test that fails
@@ -67,32 +69,76 @@ pub other_than : (key other : List ℕ) → has_key (key ∷ []) other ≡ false
 other_than key other e same =
     let apart = (neither (same_key other key) false e).0 in let itself = same_itself other in let moved = ap (same_key other) same in cc
 
+-- why a key is not noted
+pub unnoted : (notes : NotedKeys) (table : Table) (key : List ℕ) → is_noted notes table key ≡ false
+    → (notes.all ≡ false) × ((has_key notes.keys key ≡ false) × (is_filtered notes.filter table key ≡ false))
+unnoted notes table key e =
+    let outer = neither notes.all (cond (has_key notes.keys key) true (is_filtered notes.filter table key)) e in
+    (outer.0, neither (has_key notes.keys key) (is_filtered notes.filter table key) outer.1)
+
+pub not_noted : (notes : NotedKeys) (table : Table) (key : List ℕ) → notes.all ≡ false → has_key notes.keys key ≡ false → is_filtered notes.filter table key ≡ false
+    → is_noted notes table key ≡ false
+not_noted notes table key all listed filtered =
+    either_false notes.all (cond (has_key notes.keys key) true (is_filtered notes.filter table key)) all
+    (either_false (has_key notes.keys key) (is_filtered notes.filter table key) listed filtered)
+
 -- a key was added to the first part
-pub noted_left : (all : Bool) (xs ys : List (List ℕ)) (key : List ℕ)
-    → NotesKey (record { all = all; keys = xs ++ ys }) key (record { all = all; keys = (xs ++ key ∷ []) ++ ys })
-noted_left all xs ys key other e =
-    let outer = neither all (has_key ((xs ++ key ∷ []) ++ ys) other) e in
-    let parts = in_neither (xs ++ key ∷ []) ys other outer.1 in
+pub noted_left : (all : Bool) (xs ys : List (List ℕ)) (filter : List Bool) (key : List ℕ) (table : Table)
+    → NotesKey table (record { all = all; keys = xs ++ ys; filter = filter }) key (record { all = all; keys = (xs ++ key ∷ []) ++ ys; filter = filter })
+noted_left all xs ys filter key table other e =
+    let why = unnoted (record { all = all; keys = (xs ++ key ∷ []) ++ ys; filter = filter }) table other e in
+    let parts = in_neither (xs ++ key ∷ []) ys other why.1.0 in
     let left = in_neither xs (key ∷ []) other parts.0 in
-    (either_false all (has_key (xs ++ ys) other) outer.0 (not_in xs ys other left.0 parts.1), other_than key other left.1)
+    (not_noted (record { all = all; keys = xs ++ ys; filter = filter }) table other why.0 (not_in xs ys other left.0 parts.1) why.1.1, other_than key other left.1)
 
 -- or to the second
-pub noted_right : (all : Bool) (xs ys : List (List ℕ)) (key : List ℕ)
-    → NotesKey (record { all = all; keys = xs ++ ys }) key (record { all = all; keys = xs ++ (ys ++ key ∷ []) })
-noted_right all xs ys key other e =
-    let outer = neither all (has_key (xs ++ (ys ++ key ∷ [])) other) e in
-    let parts = in_neither xs (ys ++ key ∷ []) other outer.1 in
+pub noted_right : (all : Bool) (xs ys : List (List ℕ)) (filter : List Bool) (key : List ℕ) (table : Table)
+    → NotesKey table (record { all = all; keys = xs ++ ys; filter = filter }) key (record { all = all; keys = xs ++ (ys ++ key ∷ []); filter = filter })
+noted_right all xs ys filter key table other e =
+    let why = unnoted (record { all = all; keys = xs ++ (ys ++ key ∷ []); filter = filter }) table other e in
+    let parts = in_neither xs (ys ++ key ∷ []) other why.1.0 in
     let right = in_neither ys (key ∷ []) other parts.1 in
-    (either_false all (has_key (xs ++ ys) other) outer.0 (not_in xs ys other parts.0 right.0), other_than key other right.1)
+    (not_noted (record { all = all; keys = xs ++ ys; filter = filter }) table other why.0 (not_in xs ys other parts.0 right.0) why.1.1, other_than key other right.1)
 
 -- a key that is noted already
-pub noted_before : (notes : NotedKeys) (key : List ℕ) → has_key notes.keys key ≡ true → NotesKey notes key notes
-noted_before notes key has other e =
-    (e, λ same. let outer = neither notes.all (has_key notes.keys other) e in let moved = ap (has_key notes.keys) same in let no = outer.1 in cc)
+pub noted_before : (notes : NotedKeys) (key : List ℕ) (table : Table) → has_key notes.keys key ≡ true → NotesKey table notes key notes
+noted_before notes key table has other e =
+    (e, λ same. let listed = (unnoted notes table other e).1.0 in let moved = ap (has_key notes.keys) same in cc)
 
 -- all keys are noted
-pub noted_by_all : (old new : NotedKeys) (key : List ℕ) → new.all ≡ true → NotesKey old key new
-noted_by_all old new key all other e = absurd (let yes : is_noted new other ≡ true = rw all refl in cc)
+pub noted_by_all : (old new : NotedKeys) (key : List ℕ) (table : Table) → new.all ≡ true → NotesKey table old key new
+noted_by_all old new key table all other e = absurd (let no = (unnoted new table other e).0 in cc)
+
+pub kept_by_all : (old new : NotedKeys) (table : Table) → new.all ≡ true → KeepsNoted table old new
+kept_by_all old new table all key e = absurd (let no = (unnoted new table key e).0 in cc)
+
+-- if the filter was off, any other one keeps what was noted
+pub kept_by_filter : (old new : NotedKeys) (table : Table) → new.all ≡ old.all → new.keys ≡ old.keys → old.filter ≡ [] → KeepsNoted table old new
+kept_by_filter old new table all keys off key e =
+    let why = unnoted new table key e in
+    not_noted old table key (sym all ∙ why.0) (ap (λ (ks : List (List ℕ)). has_key ks key) (sym keys) ∙ why.1.0) (ap (λ (f : List Bool). is_filtered f table key) off)
+
+-- a key was noted after others were kept
+pub kept_then_noted : (old between new : NotedKeys) (key : List ℕ) (table : Table) → KeepsNoted table old between → NotesKey table between key new → NotesKey table old key new
+kept_then_noted old between new key table kept notes other e = let known = notes other e in (kept other known.0, known.1)
+
+filtered_there : (filter : List Bool) (table : Table) (key : List ℕ) → may_have filter key ≡ true → has_entry table key ≡ true → is_filtered filter table key ≡ true
+filtered_there filter table key has there = rw has there
+
+not_filtered : (before after : Bool) (there : Bool) → (after ≡ false → before ≡ false) → cond after there false ≡ false → cond before there false ≡ false
+not_filtered false after there more e = refl
+not_filtered true true there more e = e
+not_filtered true false there more e = absurd (let no = more refl in cc)
+
+-- a key with an entry was added to the filter
+pub noted_by_filter : (old new : NotedKeys) (key : List ℕ) (table : Table) → new.all ≡ old.all → new.keys ≡ old.keys → may_have new.filter key ≡ true
+    → ((other : List ℕ) → may_have new.filter other ≡ false → may_have old.filter other ≡ false) → has_entry table key ≡ true → NotesKey table old key new
+noted_by_filter old new key table all keys has others there other e =
+    let why = unnoted new table other e in (
+      not_noted old table other (sym all ∙ why.0) (ap (λ (ks : List (List ℕ)). has_key ks other) (sym keys) ∙ why.1.0)
+          (not_filtered (may_have old.filter other) (may_have new.filter other) (has_entry table other) (others other) why.1.1),
+      λ same. let yes = filtered_there new.filter table key has there in let moved = ap (is_filtered new.filter table) same in let no = why.1.1 in cc,
+    )
 
 pub same_bytes : (xs ys : List ℕ) → bytes_eq xs ys ≡ true → xs ≡ ys
 same_bytes xs ys e = alike xs ys (is_eq-slice_cmp xs ys ∙ e)

@@ -4,4 +4,5 @@ mod KeyLemmas
 mod CallLemmas
 mod AllLemmas
 mod HandLemmas
+mod FilterLemmas
 pub mod Covering

@@ -11,7 +11,7 @@ use Rattle.noted_bins.specs.Rows.{Row, has_row, row_of}
 pub record HandsOut (old : NotedKeys) (table : TimedTable) (rows : List Row) (new : NotedKeys) : Type 0 where
   pub all : new.all ≡ false
   pub present : All (λ (row : Row). row.1 ≡ row_of table row.0) rows
-  pub known : (key : List ℕ) → is_noted new key ≡ false → (has_row rows key ≡ true) ⊎ (is_noted old key ≡ false)
+  pub known : (key : List ℕ) → is_noted new table.table key ≡ false → (has_row rows key ≡ true) ⊎ (is_noted old table.table key ≡ false)
 
 -- a call with this reply left the key's entry and its deadline as they were, if its method only reads
 abbrev pub LeavesSame : Option Timing → TimedReply → Type 0

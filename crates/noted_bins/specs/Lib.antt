@@ -1,4 +1,5 @@
 pub mod Rows
+pub mod Filters
 pub mod Notes
 pub mod Marks
 pub mod Hands

@@ -1,10 +1,11 @@
 -- Which keys changed since their rows were handed out, and what a save hands out of them.
-use Rattle.std.specs.Prelude.{◌≡◌, ◌≢◌, ℕ, ◌⊎◌, Bool, true, false, cond, List, [], ◌∷◌, None}
+use Rattle.std.specs.Prelude.{◌≡◌, ◌≢◌, ℕ, ◌⊎◌, Bool, true, false, cond, List, [], ◌∷◌, None, is_some as is_there}
 use Rattle.std.specs.Coded.{Coded, code_by, coded_bool, coded_ℕ, coded_list, coded×}
 use Rattle.std.specs.FinMap as finite
 use Rattle.std.specs.List.{All}
 use Rattle.bins.specs.Table.{Table}
 use Rattle.timed_bins.specs.Deadlines.{TimedTable}
+use Rattle.noted_bins.specs.Filters.{may_have}
 use Rattle.noted_bins.specs.declared.taken.Taken.{Taken}
 use Rattle.noted_bins.specs.declared.taken.Taken.TheVariants.{All as AllTaken, Some as SomeTaken, Rest}
 use Rattle.noted_bins.specs.Rows.{Row, Saved, has_row, row_of, same_key}
@@ -50,22 +51,36 @@ pub record TakesChanges (noted : List ℕ → Bool) (old : TimedTable) (taken : 
   -- if not just some were taken, none is noted
   pub none : is_some taken ≡ false → (key : List ℕ) → noted' key ≡ false
 
--- the keys that are noted: all, or these
+-- the keys that are noted: all, or those in a list, and those with an entry that a filter may have
 pub record NotedKeys : Type 0 where
   pub all : Bool
   pub keys : List (List ℕ)
+  pub filter : List Bool
 
 abbrev pub noted_code : Coded NotedKeys
-noted_code = code_by (Bool × List (List ℕ)) (coded× coded_bool (coded_list (coded_list coded_ℕ)))
-    (λ n. (n.all, n.keys)) (λ x. record { all = x.0; keys = x.1 }) (λ _. refl)
+noted_code = code_by (Bool × (List (List ℕ) × List Bool)) (coded× coded_bool (coded× (coded_list (coded_list coded_ℕ)) (coded_list coded_bool)))
+    (λ n. (n.all, (n.keys, n.filter))) (λ x. record { all = x.0; keys = x.1.0; filter = x.1.1 }) (λ _. refl)
 
 abbrev pub has_key : List (List ℕ) → List ℕ → Bool
 has_key [] key = false
 has_key (one ∷ keys) key = cond (same_key key one) true (has_key keys key)
 
-abbrev pub is_noted : NotedKeys → List ℕ → Bool
-is_noted notes key = cond notes.all true (has_key notes.keys key)
+-- if a key has an entry
+abbrev pub has_entry : Table → List ℕ → Bool
+has_entry table key = is_there (finite.get table key)
+
+-- if a key has an entry, and the filter may have it
+abbrev pub is_filtered : List Bool → Table → List ℕ → Bool
+is_filtered filter table key = cond (may_have filter key) (has_entry table key) false
+
+-- beside a table with these entries
+abbrev pub is_noted : NotedKeys → Table → List ℕ → Bool
+is_noted notes table key = cond notes.all true (cond (has_key notes.keys key) true (is_filtered notes.filter table key))
+
+-- a key that is noted stays so
+abbrev pub KeepsNoted : Table → NotedKeys → NotedKeys → Type 0
+KeepsNoted table old new = (key : List ℕ) → is_noted new table key ≡ false → is_noted old table key ≡ false
 
 -- a key was noted; another one is noted if it was, or more are
-abbrev pub NotesKey : NotedKeys → List ℕ → NotedKeys → Type 0
-NotesKey old key new = (other : List ℕ) → is_noted new other ≡ false → (is_noted old other ≡ false) × (other ≢ key)
+abbrev pub NotesKey : Table → NotedKeys → List ℕ → NotedKeys → Type 0
+NotesKey table old key new = (other : List ℕ) → is_noted new table other ≡ false → (is_noted old table other ≡ false) × (other ≢ key)

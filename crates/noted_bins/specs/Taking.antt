@@ -1,8 +1,9 @@
 -- Rows that were added to a list of changes.
-use Rattle.std.specs.Prelude.{◌≡◌, ◌⊎◌, ℕ, true, List, [], ◌++◌, None, slice_index_or}
+use Rattle.std.specs.Prelude.{◌≡◌, ◌⊎◌, ℕ, Bool, true, List, [], ◌++◌, None, slice_index_or}
 use Rattle.std.specs.List.{All}
 use Rattle.std.specs.FinMap as finite
 use Rattle.timed_bins.specs.Deadlines.{TimedTable}
+use Rattle.noted_bins.specs.Notes.{is_filtered}
 use Rattle.noted_bins.specs.Rows.{Row, has_row, row_of}
 
 -- the row at a position
@@ -15,3 +16,14 @@ pub record HandsOutAll (table : TimedTable) (old new : List Row) : Type 0 where
   pub added : new ≡ old ++ rows
   pub present : All (λ (row : Row). row.1 ≡ row_of table row.0) rows
   pub known : (key : List ℕ) → (has_row rows key ≡ true) ⊎ (finite.get table.table key ≡ None)
+
+-- rows of some entries were added
+pub record HandsOutPresent (table : TimedTable) (old new : List Row) : Type 0 where
+  pub rows : List Row
+  pub added : new ≡ old ++ rows
+  pub present : All (λ (row : Row). row.1 ≡ row_of table row.0) rows
+
+-- .. and each entry whose key a filter may have is among them
+pub record HandsOutFiltered (table : TimedTable) (filter : List Bool) (old new : List Row) : Type 0 where
+  pub handed : HandsOutPresent table old new
+  pub known : (key : List ℕ) → is_filtered filter table.table key ≡ true → has_row handed.rows key ≡ true

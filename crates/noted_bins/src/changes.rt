@@ -3,8 +3,9 @@ ghost use Rattle.std.specs.Prelude.{◌≡◌, ◌<◌, ◌≤◌, ◌+◌, ◌-
 ghost use Rattle.timed_bins.specs.Deadlines.{timed_table};
 ghost use Rattle.noted_bins.specs.Marks.{marks_of, saved_as, saved_in};
 ghost use Rattle.noted_bins.specs.Rows.{Row, row_of};
-ghost use Rattle.noted_bins.specs.Taking.{HandsOutAll, row_at};
+ghost use Rattle.noted_bins.specs.Taking.{HandsOutAll, HandsOutFiltered, HandsOutPresent, row_at};
 
+use crate::key_filter::KeyFilter;
 use crate::mark::{Mark, SavedEntry};
 use bins::{EntryList, HashedKey};
 use bpf_model::limits::{KEY_BYTES, VALUE_BYTES};
@@ -87,11 +88,44 @@ impl Changes {
             (key.now, row_of (timed_table (T.table bins.now) (T.deadline bins.now) (T.latest bins.now)) key.now) ∷ []) }
         ensures err { OnErr result (self.new ≡ self.old) }
     {
-        let key = HashedKey::new(key);
-        let (value, mark) = find_row(bins, &key);
+        let (value, mark) = find_row(bins, &HashedKey::new(key));
+        self.push(key, value, mark)
+    }
+
+    /// Adds a row with this key, this value and this mark. Returns `NoMemory` if a request for memory is refused; then nothing
+    /// changes.
+    fn push(&mut self, key: &Key, value: &[u8], mark: Mark) -> Result<(), NoMemory>
+        requires fits { length value.now ≤ VALUE_BYTES }
+        ensures ok { OnOk result (self.new ≡ self.old ++ (key.now, saved_as mark value.now) ∷ []) }
+        ensures err { OnErr result (self.new ≡ self.old) }
+    {
         self.marks.try_reserve(1)?;
-        self.entries.push(key.key().as_slice(), value)?;
+        self.entries.push(key.as_slice(), value)?;
         self.marks.push_reserved(mark);
+        Ok(())
+    }
+
+    /// Adds a row of each entry whose key the filter may have. Returns `NoMemory` if a request for memory is refused; then rows
+    /// of some of them were added.
+    pub(crate) fn add_filtered<T: TimedBins>(
+        &mut self,
+        bins: &T,
+        filter: &KeyFilter,
+    ) -> Result<(), NoMemory>
+        ensures ok { OnOk result (HandsOutFiltered
+            (timed_table (T.table bins.now) (T.deadline bins.now) (T.latest bins.now)) filter.now self.old self.new) }
+        ensures err { OnErr result (HandsOutPresent
+            (timed_table (T.table bins.now) (T.deadline bins.now) (T.latest bins.now)) self.old self.new) }
+    {
+        let entries = bins.lend();
+        for position in 0..entries.len() {
+            let (bytes, value) = entries.get(position);
+            let key = Key::from_slice(bytes).unwrap();
+            let hashed = HashedKey::new(&key);
+            if filter.may_have(&hashed) {
+                self.push(&key, value, Mark::of(bins.deadline_of(&hashed)))?;
+            }
+        }
         Ok(())
     }
 

@@ -5,11 +5,12 @@
 //! rows of noted keys, or of all entries if it isn't known which keys changed (`TakesChanges`). If it tells that none is left,
 //! the rows come to all entries with their deadlines.
 //!
-//! `Noted` does this beside any bins with deadlines. Noting refuses no call: if there is no room for a key, all are noted. No
-//! call waits.
+//! `Noted` does this beside any bins with deadlines. Few keys that changed are in lists; if they are many, a filter has them.
+//! Noting refuses no call: if there is no room for a key, all are noted. No call waits.
 #![tactic(auto)]
 
 mod changes;
+mod key_filter;
 mod mark;
 mod noted;
 mod noted_bins;

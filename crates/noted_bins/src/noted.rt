@@ -1,8 +1,8 @@
 //! Bins with notes of which keys changed.
-ghost use Rattle.std.specs.Prelude.{◌≡◌, ◌++◌, false, List, IsTrue, IfOk, OnErr, option_copied};
+ghost use Rattle.std.specs.Prelude.{◌≡◌, ◌++◌, [], false, List, IsTrue, IfOk, OnErr, option_copied};
 ghost use Rattle.atomic_methods.specs.Invocations.{get, invocation_of};
 ghost use Rattle.timed_bins.specs.Deadlines.{timed_table, MakesCall, RefusesCall, Expires};
-ghost use Rattle.noted_bins.specs.Hands.{LeavesSame};
+ghost use Rattle.noted_bins.specs.Hands.{HandsOut, LeavesSame};
 ghost use Rattle.noted_bins.specs.Notes.{NotesChanges, TakesChanges, is_noted};
 ghost use Rattle.noted_bins.specs.Rows.{Row};
 
@@ -41,8 +41,8 @@ impl<T: TimedBins + Drop> Noted<T> {
         ensures err { OnErr result (RefusesCall (option_copied timing.entry)
             (timed_table (T.table self.old.bins) (T.deadline self.old.bins) (T.latest self.old.bins)) call.now
             (timed_table (T.table self.new.bins) (T.deadline self.new.bins) (T.latest self.new.bins))) }
-        ensures notes { NotesChanges (is_noted self.old.notes)
-            (timed_table (T.table self.old.bins) (T.deadline self.old.bins) (T.latest self.old.bins)) (is_noted self.new.notes)
+        ensures notes { NotesChanges (is_noted self.old.notes (T.table self.old.bins))
+            (timed_table (T.table self.old.bins) (T.deadline self.old.bins) (T.latest self.old.bins)) (is_noted self.new.notes (T.table self.new.bins))
             (timed_table (T.table self.new.bins) (T.deadline self.new.bins) (T.latest self.new.bins)) }
     {
         let timed = self.bins.call(call, timing, workspace, bytes)?;
@@ -56,8 +56,8 @@ impl<T: TimedBins + Drop> Noted<T> {
     fn expire(&mut self, now: u64) -> Expiry
         ensures expires { Expires (timed_table (T.table self.old.bins) (T.deadline self.old.bins) (T.latest self.old.bins)) now result
             (timed_table (T.table self.new.bins) (T.deadline self.new.bins) (T.latest self.new.bins)) }
-        ensures notes { NotesChanges (is_noted self.old.notes)
-            (timed_table (T.table self.old.bins) (T.deadline self.old.bins) (T.latest self.old.bins)) (is_noted self.new.notes)
+        ensures notes { NotesChanges (is_noted self.old.notes (T.table self.old.bins))
+            (timed_table (T.table self.old.bins) (T.deadline self.old.bins) (T.latest self.old.bins)) (is_noted self.new.notes (T.table self.new.bins))
             (timed_table (T.table self.new.bins) (T.deadline self.new.bins) (T.latest self.new.bins)) }
     {
         match self.bins.expire_one(now) {
@@ -87,7 +87,32 @@ fn changes_deadline(timing: Option<&Timing>, timed: &TimedReply) -> bool
     timing.is_some() && (timed.was_over || timed.before != timed.after)
 }
 
-/// Adds rows of noted keys to the changes, at most `most` of them.
+/// Adds rows of the keys in the lists to the changes, at most `most` of them. Returns whether none is left there.
+fn take_listed<T: TimedBins>(
+    bins: &T,
+    notes: &mut Notes,
+    most: usize,
+    changes: &mut Changes,
+) -> Result<bool, NoMemory>
+    requires { notes.old.all ≡ false }
+    ensures ok { IfOk result (λ _. (rows : List Row) × ((changes.new ≡ changes.old ++ rows)
+        × HandsOut notes.old (timed_table (T.table bins.now) (T.deadline bins.now) (T.latest bins.now)) rows notes.new)) }
+    ensures none { IfOk result (λ emptied. IsTrue emptied → notes.new.keys ≡ []) }
+    ensures err { OnErr result ((changes.new ≡ changes.old) × (notes.new ≡ notes.old)) }
+{
+    for handed in 0..most {
+        let Some(key) = notes.last() else {
+            return Ok(true);
+        };
+        if let Err(fault) = changes.add(bins, &key) {
+            return if handed == 0 { Err(fault) } else { Ok(false) };
+        }
+        notes.drop_last();
+    }
+    Ok(notes.is_empty())
+}
+
+/// Adds rows of noted keys to the changes: at most `most` if all are in the lists, else those of all.
 fn take_some<T: TimedBins>(
     bins: &T,
     notes: &mut Notes,
@@ -96,28 +121,23 @@ fn take_some<T: TimedBins>(
 ) -> Result<Taken, NoMemory>
     requires { notes.old.all ≡ false }
     ensures ok { IfOk result (λ taken. (rows : List Row) × ((changes.new ≡ changes.old ++ rows)
-        × TakesChanges (is_noted notes.old) (timed_table (T.table bins.now) (T.deadline bins.now) (T.latest bins.now))
-        taken rows (is_noted notes.new) (timed_table (T.table bins.now) (T.deadline bins.now) (T.latest bins.now)))) }
+        × TakesChanges (is_noted notes.old (T.table bins.now)) (timed_table (T.table bins.now) (T.deadline bins.now) (T.latest bins.now))
+        taken rows (is_noted notes.new (T.table bins.now)) (timed_table (T.table bins.now) (T.deadline bins.now) (T.latest bins.now)))) }
     ensures err { OnErr result ((changes.new ≡ changes.old) × (notes.new ≡ notes.old)) }
 {
-    for handed in 0..most {
-        let Some(key) = notes.last() else {
-            return Ok(Taken::Rest);
-        };
-        if let Err(fault) = changes.add(bins, &key) {
-            return if handed == 0 {
-                Err(fault)
-            } else {
-                Ok(Taken::Some)
-            };
-        }
-        notes.drop_last();
-    }
-    if notes.is_empty() {
-        Ok(Taken::Rest)
+    let most = if notes.is_filtered() {
+        usize::MAX
     } else {
-        Ok(Taken::Some)
+        most
+    };
+    if !take_listed(bins, notes, most, changes)? {
+        return Ok(Taken::Some);
     }
+    if changes.add_filtered(bins, notes.filter()).is_err() {
+        return Ok(Taken::Some);
+    }
+    notes.forget();
+    Ok(Taken::Rest)
 }
 
 impl<T: TimedBins + Drop> Bins for Noted<T> {
@@ -143,18 +163,20 @@ impl<T: TimedBins + Drop> Bins for Noted<T> {
     }
 
     fn put(&mut self, key: &HashedKey<'_>, value: &Value) -> Result<(), NoMemory> {
+        let result = self.bins.put(key, value);
         self.notes.note(key, &self.bins);
-        self.bins.put(key, value)
+        result
     }
 
     fn add(&mut self, key: &HashedKey<'_>, value: &Value) -> Result<(), NoMemory> {
+        let result = self.bins.add(key, value);
         self.notes.note(key, &self.bins);
-        self.bins.add(key, value)
+        result
     }
 
     fn discard(&mut self, key: &HashedKey<'_>) {
-        self.notes.note(key, &self.bins);
         self.bins.discard(key);
+        self.notes.note(key, &self.bins);
     }
 
     fn lend(&self) -> LentEntries<'_> {
@@ -204,7 +226,7 @@ impl<T: TimedBins + Drop> TimedBins for Noted<T> {
 }
 
 impl<T: TimedBins + Drop> NotedBins for Noted<T> {
-    ghost noted = { λ noted. is_noted noted.notes };
+    ghost noted = { λ noted. is_noted noted.notes (T.table noted.bins) };
 
     #[inline(always)]
     fn call_noted(

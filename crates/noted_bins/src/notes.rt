@@ -1,29 +1,36 @@
 //! Which keys changed.
 ghost use Rattle.std.specs.Prelude.{◌≡◌, ◌++◌, ◌<◌, [], ◌∷◌, ℕ, List, true, false, IsTrue, OnOk, MatchOption};
-ghost use Rattle.noted_bins.specs.Notes.{NotesKey, has_key};
+ghost use Rattle.bins.specs.Table.{Table};
+ghost use Rattle.noted_bins.specs.Notes.{KeepsNoted, NotesKey, has_key};
 
+use crate::key_filter::KeyFilter;
 use crate::short_key::ShortKey;
 use bins::{Bins, HashedKey};
 use bpf_model::{Key, NoMemory};
 use std::alloc::Global;
 use std::marker::Model;
 
-/// The lists have room for this many keys, and for one more for each `PART` entries. If they are full, all keys are noted.
-const FEW: u64 = 1024;
+/// The lists have room for this many keys, and for one more for each `PART` entries. If they are full, the filter is turned on.
+const FEW: u64 = 128;
 
 /// A key in the lists for this many entries.
-const PART: u64 = 4;
+const PART: u64 = 128;
+
+/// If the filter is on, the lists have room for so many times as many keys. If they are full then, all keys are noted.
+const MORE: u64 = 2;
 
 /// Places for the positions of keys that were noted last.
 const RECENT: usize = 256;
 
-/// The keys that changed: all, or those in two lists, the short keys and the long ones. A short key takes sixteen bytes, a
-/// long one 72.
+/// The keys that changed: all, or those in two lists, the short keys and the long ones, and those keys with an entry that the
+/// filter may have. A short key takes sixteen bytes, a long one 72. If many keys change, those that have an entry go to the
+/// filter, which takes a byte for each entry, and just the others to the lists.
 #[derive(Drop)]
 pub(crate) struct Notes {
     all: bool,
     short: Vec<ShortKey>,
     long: Vec<Key>,
+    filter: KeyFilter,
     // By the hashes of keys, the positions at which they were put. By now another key may stand there, or none.
     recent: [u32; RECENT],
 }
@@ -36,7 +43,7 @@ impl Model for Notes {
 
     ghost coded = { noted_code };
 
-    ghost view = { λ notes. record { all = notes.all; keys = notes.short.items ++ notes.long.items } };
+    ghost view = { λ notes. record { all = notes.all; keys = notes.short.items ++ notes.long.items; filter = notes.filter } };
 }
 
 impl Notes {
@@ -48,6 +55,7 @@ impl Notes {
             all: true,
             short: Vec::new(alloc),
             long: Vec::new(alloc),
+            filter: KeyFilter::off(alloc),
             recent: [0; RECENT],
         }
     }
@@ -60,11 +68,32 @@ impl Notes {
         self.all
     }
 
-    /// Returns how many bytes the keys take that the lists have room for.
+    /// Returns whether the filter is on.
+    #[inline(always)]
+    pub(crate) fn is_filtered(&self) -> bool {
+        self.filter.is_on()
+    }
+
+    /// Returns the filter.
+    #[inline(always)]
+    pub(crate) fn filter(&self) -> &KeyFilter
+        ensures { result.now ≡ self.now.filter }
+    {
+        &self.filter
+    }
+
+    /// Returns how many bytes the keys take that the lists have room for, and the filter.
     pub(crate) fn bytes(&self) -> u64 {
         let short = self.short.capacity().saturating_mul(size_of::<ShortKey>());
         let long = self.long.capacity().saturating_mul(size_of::<Key>());
-        short.saturating_add(long) as u64
+        short
+            .saturating_add(long)
+            .saturating_add(self.filter.bytes()) as u64
+    }
+
+    /// Returns how many keys the lists have.
+    fn listed(&self) -> u64 {
+        (self.short.len() as u64).saturating_add(self.long.len() as u64)
     }
 
     /// Returns whether the lists are empty.
@@ -74,34 +103,45 @@ impl Notes {
         self.short.is_empty() && self.long.is_empty()
     }
 
+    /// Empties the lists, and turns the filter off. Takes no memory.
+    fn clear(&mut self)
+        ensures all { self.new.all ≡ self.old.all }
+        ensures keys { self.new.keys ≡ [] }
+        ensures filter { self.new.filter ≡ [] }
+    {
+        self.short.clear();
+        self.long.clear();
+        self.filter.turn_off();
+    }
+
     /// Notes all keys. Takes no memory.
     pub(crate) fn note_all(&mut self)
         ensures { self.new.all ≡ true }
     {
+        self.clear();
         self.all = true;
-        self.short.clear();
-        self.long.clear();
     }
 
     /// Forgets all keys. Takes no memory.
     pub(crate) fn forget(&mut self)
         ensures all { self.new.all ≡ false }
         ensures keys { self.new.keys ≡ [] }
+        ensures filter { self.new.filter ≡ [] }
     {
+        self.clear();
         self.all = false;
-        self.short.clear();
-        self.long.clear();
     }
 
-    /// Notes a key of these bins. If there are too many, or a request for memory is refused, all are noted.
+    /// Notes a key of these bins, which are as they are after its change. If too many changed, or a request for memory is refused,
+    /// all are noted.
     #[inline(always)]
     pub(crate) fn note<B: Bins>(&mut self, key: &HashedKey<'_>, bins: &B)
-        ensures { NotesKey self.old key.now self.new }
+        ensures { NotesKey (B.table bins.now) self.old key.now self.new }
     {
         if self.all || self.is_recent(key) {
             return;
         }
-        self.add(key, bins.count());
+        self.add(key, bins);
     }
 
     /// Returns whether a key is noted, by the position at which one with its hash was noted last. It may be noted if it
@@ -118,25 +158,42 @@ impl Notes {
         position < self.long.len() && self.long[position].as_slice() == bytes
     }
 
-    /// Adds a key to its list, unless there are too many for bins with this many entries. Then, or if a request for memory is
-    /// refused, all are noted.
+    /// Adds a key to the filter if that is on and the key has an entry, else to its list. If that has no room, or a request for
+    /// memory is refused, all keys are noted.
     #[inline(never)]
-    fn add(&mut self, key: &HashedKey<'_>, entries: u64)
-        ensures { NotesKey self.old key.now self.new }
+    fn add<B: Bins>(&mut self, key: &HashedKey<'_>, bins: &B)
+        ensures { NotesKey (B.table bins.now) self.old key.now self.new }
     {
-        let many = (self.short.len() as u64).saturating_add(self.long.len() as u64);
-        if many >= FEW.saturating_add(entries / PART) {
-            self.note_all();
+        let room = FEW.saturating_add(bins.count() / PART);
+        if self.listed() >= room {
+            self.turn_filter_on(bins.count());
+        }
+        if self.filter.is_on() && bins.find(key).is_some() {
+            self.filter.add(key);
             return;
         }
-        if self.push(key).is_err() {
+        if self.listed() >= room.saturating_mul(MORE) || self.push(key).is_err() {
+            self.note_all();
+        }
+    }
+
+    /// Turns the filter on, with a place for each of so many entries, unless it is on. If a request for memory is refused, all
+    /// keys are noted.
+    fn turn_filter_on(&mut self, entries: u64)
+        ensures { (table : Table) → KeepsNoted table self.old self.new }
+    {
+        if self.filter.is_on() {
+            return;
+        }
+        let places = entries.max(FEW) as usize;
+        if self.filter.turn_on(places).is_err() {
             self.note_all();
         }
     }
 
     /// Adds a key to its list, and remembers its position.
     fn push(&mut self, key: &HashedKey<'_>) -> Result<(), NoMemory>
-        ensures { OnOk result (NotesKey self.old key.now self.new) }
+        ensures { OnOk result ((table : Table) → NotesKey table self.old key.now self.new) }
     {
         let position = self.keep(key.key())?;
         self.recent[place_of(key)] = u32::try_from(position).unwrap_or(u32::MAX);
@@ -145,7 +202,7 @@ impl Notes {
 
     /// Adds a key to its list. Returns its position there.
     fn keep(&mut self, key: &Key) -> Result<usize, NoMemory>
-        ensures { OnOk result (NotesKey self.old key.now self.new) }
+        ensures { OnOk result ((table : Table) → NotesKey table self.old key.now self.new) }
     {
         match ShortKey::from_slice(key.as_slice()) {
             Some(short) => {
@@ -174,6 +231,7 @@ impl Notes {
     /// Drops the key at the end.
     pub(crate) fn drop_last(&mut self)
         ensures all { self.new.all ≡ self.old.all }
+        ensures filter { self.new.filter ≡ self.old.filter }
         ensures keys { (rest : List (List ℕ)) (key : List ℕ) → self.old.keys ≡ rest ++ key ∷ [] → self.new.keys ≡ rest }
     {
         if self.long.pop().is_none() {

@@ -2,7 +2,7 @@ use Rattle.std.proofs.Common.{◌≡◌, ◌++◌, List}
 use Rattle.timed_bins.specs.Deadlines.{timed_table}
 use Rattle.noted_bins.specs.Hands.{HandsOut}
 use Rattle.noted_bins.specs.Rows.{Row}
-use Rattle.noted_bins.proofs.noted.take_some.Given as goal
+use Rattle.noted_bins.proofs.noted.take_listed.Given as goal
 
 abbrev pub invariant-loop-handed : goal.invariant-loop-handed
 invariant-loop-handed g l =
