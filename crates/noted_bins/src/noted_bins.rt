@@ -55,9 +55,9 @@ pub trait NotedBins: TimedBins {
             (timed_table (Self.table self.old) (Self.deadline self.old) (Self.latest self.old)) (noted self.new)
             (timed_table (Self.table self.new) (Self.deadline self.new) (Self.latest self.new)) };
 
-    /// Adds rows of noted keys to the changes, at most `most` of them; or of all entries if `anew`, or if all keys are noted.
-    /// Keys whose rows were added are no longer noted. Returns `NoMemory` if a request for memory is refused and no row was
-    /// added; then nothing changes. Never waits.
+    /// Adds rows of noted keys to the changes: at most `most` of them, or of all if they are many; or of all entries if `anew`, or
+    /// if it isn't known which keys changed. Keys whose rows were added are no longer noted. If a request for memory is refused,
+    /// returns `NoMemory`, and nothing changes; or `Some`, with the rows for which there was room. Never waits.
     fn take_changes(
         &mut self,
         anew: bool,
