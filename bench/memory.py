@@ -1,6 +1,7 @@
 #!/usr/bin/env python3
 """Tells how much resident memory an entry takes in the built mapd, and in Redis if it is installed: how much more a server has after twice
-as many entries. By hand, not by the gate: python3 bench/memory.py [--mapd PROGRAM] [--entries N] [--key BYTES] [--value BYTES]."""
+as many entries. With --keep also in a mapd that keeps its map in a file, at most, while all entries are put again and again. By hand, not by
+the gate: python3 bench/memory.py [--mapd PROGRAM] [--entries N] [--key BYTES] [--value BYTES] [--keep]."""
 from __future__ import annotations
 
 import argparse
@@ -14,6 +15,7 @@ import time
 from collections.abc import Callable, Iterator
 from pathlib import Path
 
+Measure = Callable[[int, Callable[[int, int], None], int], int]
 ROOT = Path(__file__).resolve().parent.parent
 MAPD = ROOT / "crates/mapd/out/mapd"
 PATIENCE = 30
@@ -21,6 +23,8 @@ HELLO = bytes.fromhex("00000002" "00" "02")
 # How many bytes a server answers to a Hello, to a Put of a new key, and Redis to a SET.
 HELLO_ANSWER, PUT_ANSWER, SET_ANSWER = 6, 7, 5
 PIECE = 1 << 16
+# For so many seconds entries change while memory is measured: there are several saves.
+CHANGING = 12
 
 
 def key_of(number: int, size: int) -> bytes:
@@ -77,9 +81,40 @@ def each(process: int, fill_from: Callable[[int, int], None], entries: int) -> i
     return (resident(process) - before) // entries
 
 
-def start_mapd(program: Path) -> tuple[subprocess.Popen[str], int]:
-    server = subprocess.Popen([program, "--listen", "127.0.0.1:0"], stdout=subprocess.PIPE, stderr=subprocess.PIPE, text=True)
-    port = int(server.stderr.readline().rsplit(":", 1)[1])
+def most_while(process: int, work: Callable[[], None]) -> int:
+    """The most bytes of memory that a process has while this is done again and again, for CHANGING seconds."""
+    over = threading.Event()
+    most = resident(process)
+
+    def change() -> None:
+        end = time.monotonic() + CHANGING
+        while time.monotonic() < end:
+            work()
+        over.set()
+
+    changer = threading.Thread(target=change)
+    changer.start()
+    while not over.wait(0.05):
+        most = max(most, resident(process))
+    changer.join()
+    return most
+
+
+def each_changing(process: int, fill_from: Callable[[int, int], None], entries: int) -> int:
+    """As `each`, but by the most memory while all entries change."""
+    fill_from(0, entries)
+    before = most_while(process, lambda: fill_from(0, entries))
+    fill_from(entries, 2 * entries)
+    return (most_while(process, lambda: fill_from(0, 2 * entries)) - before) // entries
+
+
+def start_mapd(program: Path, *options: str) -> tuple[subprocess.Popen[str], int]:
+    server = subprocess.Popen([program, "--listen", "127.0.0.1:0", *options], stdout=subprocess.PIPE, stderr=subprocess.PIPE, text=True)
+    port = 0
+    while not port:
+        line = server.stderr.readline()
+        port = int(line.rsplit(":", 1)[1]) if line.startswith("listening on ") else 0
+    threading.Thread(target=server.stderr.read, daemon=True).start()
     server.stdout.readline()
     return server, port
 
@@ -103,27 +138,37 @@ def main() -> None:
     words.add_argument("--entries", type=int, default=1_000_000)
     words.add_argument("--key", type=int, default=8)
     words.add_argument("--value", type=int, default=8)
+    words.add_argument("--keep", action="store_true")
     given = words.parse_args()
 
     def frames(make: Callable[[bytes, bytes], bytes], first: int, end: int) -> Iterator[bytes]:
         value = b"v" * given.value
         return (make(key_of(number, given.key), value) for number in range(first, end))
 
-    def tell(name: str, started: tuple[subprocess.Popen[str], int], make: Callable[[bytes, bytes], bytes]) -> None:
+    def tell(name: str, started: tuple[subprocess.Popen[str], int], make: Callable[[bytes, bytes], bytes], by: Measure = each) -> None:
         server, port = started
         hello, hello_answer, answer = (HELLO, HELLO_ANSWER, PUT_ANSWER) if make is put else (b"", 0, SET_ANSWER)
 
+        filled = 0
+
         def fill_from(first: int, end: int) -> None:
-            fill(port, hello, frames(make, first, end), hello_answer + answer * (end - first))
+            nonlocal filled
+            # A Put of a key that is there is answered by the value before.
+            there = max(0, min(end, filled) - first) if make is put else 0
+            fill(port, hello, frames(make, first, end), hello_answer + answer * (end - first) + given.value * there)
+            filled = max(filled, end)
 
         try:
-            taken = each(server.pid, fill_from, given.entries)
+            taken = by(server.pid, fill_from, given.entries)
             print(f"{name}: {taken} bytes an entry of {given.key} and {given.value}, from {given.entries} to {2 * given.entries}")
         finally:
             server.kill()
             server.wait()
 
     tell("mapd", start_mapd(given.mapd), put)
+    if given.keep:
+        with tempfile.TemporaryDirectory() as folder:
+            tell("mapd --keep", start_mapd(given.mapd, "--keep", f"{folder}/map.db"), put, each_changing)
     if shutil.which("redis-server"):
         with tempfile.TemporaryDirectory() as folder:
             tell("redis", start_redis(folder), redis_set)
