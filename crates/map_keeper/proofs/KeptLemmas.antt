@@ -1,12 +1,12 @@
 -- What the statements of a save make of the stripes that a file has.
-use Rattle.std.proofs.Common.{◌≡◌, ◌≢◌, ◌∙◌, ◌⊎◌, ℕ, zero, suc, ◌^◌, ◌<◌, ◌≤◌, Bool, true, false, cond, List, [], ◌∷◌, ◌++◌, map, Option, All, IsTrue, refl, sym, ap, subst, inl, inr, arith}
+use Rattle.std.proofs.Common.{◌≡◌, ◌≢◌, ◌∙◌, ◌⊎◌, ℕ, zero, suc, ◌+◌, ◌^◌, ◌<◌, ◌≤◌, Bool, true, false, cond, List, [], ◌∷◌, ◌++◌, map, Option, All, IsTrue, refl, sym, ap, subst, inl, inr, arith}
 use Rattle.std.proofs.lemmas.List.{map-append}
 use Rattle.std.specs.FinMap as finite
 use Rattle.std.specs.List.{AllByRecursion}
 use Rattle.sqlite.specs.Effect.{Database, IsDatabase}
 use Rattle.sqlite.specs.Held.{Held, state}
 use Rattle.sqlite.specs.Store as store
-use Rattle.sqlite.specs.Tree.{rowid, IsTable}
+use Rattle.sqlite.specs.Tree.{rowid, IsTable, Trees}
 use Rattle.sqlite.specs.View.{is_int}
 use Rattle.sqlite.specs.Order.{Row}
 use Rattle.sqlite.specs.State.{State}
@@ -30,9 +30,9 @@ use Rattle.stripe_rule.specs.Gains.{mine_of}
 use Rattle.bin_stripes.specs.declared.ghost_action.GhostAction.{GhostAction}
 use Rattle.bin_stripes.specs.Actions.{Action}
 use Rattle.bin_stripes.specs.Saves.{kept_after, kept_from, kept_in}
-use Rattle.map_keeper.specs.Kept.{HasStripe, IsInStep}
-use Rattle.map_keeper.proofs.SaveLemmas.{same_or_not as same_stripe, below as stripe_below}
-use Rattle.map_keeper.specs.Written.{Round, BeginsAnew, IsFit, MakesAll, SavesStripe, SavesBelow, SavesMap, IsOther, rows_of, statement_of, statements_of, statements_in, action_of, actions_in}
+use Rattle.map_keeper.specs.Kept.{HasStripe, IsInStep, IsSavedPartly, with_trees}
+use Rattle.map_keeper.proofs.SaveLemmas.{lower_or_not, same_or_not as same_stripe, below as stripe_below}
+use Rattle.map_keeper.specs.Written.{Round, BeginsAnew, IsFit, MakesAll, SavesFrom, SavesMap, SavesParts, SavesStripe, WouldSave, WritesPart, IsOther, rows_of, statement_of, statements_of, statements_in, action_of, actions_in, begun}
 
 -- stripes below 2 ^ 63 are kept under numbers of their own
 pub kept_apart : (j k : ℕ) → j < 2 ^ 63 → k < 2 ^ 63 → j ≢ k → kept_number j ≢ kept_number k
@@ -99,6 +99,13 @@ pub record Changes (k : ℕ) (table : Table) (old new : State) : Type 1 where
   pub tables : HasTables new
   pub mine : HasStripe new k table
   pub others : (j : ℕ) (other : Table) → kept_number j ≢ kept_number k → HasStripe old j other → HasStripe new j other
+
+-- each stripe from `start` up to `end` has what was handed out, and the others below n what they had
+pub record ChangesBetween (w : View GhostAction) (n start end : ℕ) (old new : State) : Type 1 where
+  pub tables : HasTables new
+  pub mine : (j : ℕ) → start ≤ j → j < end → HasStripe new j (kept_in (mine_of w j))
+  pub lower : (j : ℕ) (table : Table) → j < start → HasStripe old j table → HasStripe new j table
+  pub upper : (j : ℕ) (table : Table) → end ≤ j → j < n → HasStripe old j table → HasStripe new j table
 
 module _ {S : Type 0} (shown : Held S → State) where
   parts_change : (k : ℕ) (parts : List (List SavedRow)) (table : Table) (old new : Held S) → All (All IsWithin) parts → HasTables (shown old) → HasStripe (shown old) k table
@@ -208,39 +215,33 @@ module _ {S : Type 0} (shown : Held S → State) where
       ∙ (sym (kept_by_actions table handed.events) ∙ (sym (kept_append finite.empty (mine_of v k) handed.events) ∙ ap kept_in (sym handed.made))))) in
       subst (λ t. Changes k t (shown old) (shown new)) is change
 
-  -- each stripe below n has what was handed out, and those from n on what they had
-  pub record ChangesBelow (w : View GhostAction) (n : ℕ) (old new : State) : Type 1 where
-    pub tables : HasTables new
-    pub below : (j : ℕ) → j < n → HasStripe new j (kept_in (mine_of w j))
-    pub above : (j : ℕ) (table : Table) → n ≤ j → j < 2 ^ 63 → HasStripe old j table → HasStripe new j table
-
-  below_changes : (anew : Bool) (v w : View GhostAction) (n : ℕ) (old new : Held S) → n ≤ 2 ^ 63 → HasTables (shown old)
-      → ((k : ℕ) → k < n → IsTrue anew ⊎ HasStripe (shown old) k (kept_in (mine_of v k))) → SavesBelow shown anew v w n old new → ChangesBelow w n (shown old) (shown new)
-  unfolding SavesBelow
-  below_changes anew v w zero old new high has start same =
-      subst (λ (h : Held S). ChangesBelow w zero (shown old) (shown h)) (sym same) (record { tables = has; below = λ j low. absurd (omega (arith, low)); above = λ j table up low had. had })
-  below_changes anew v w (suc n) old new high has start saves =
-      let before = below_changes anew v w n old saves.0 (omega (arith, high)) has (λ k low. start k (omega (arith, low))) saves.1 in
-      let mine : IsTrue anew ⊎ HasStripe (shown saves.0) n (kept_in (mine_of v n)) = elim (start n (omega arith)) [
+  from_changes : (anew : Bool) (v w : View GhostAction) (n start many : ℕ) (old new : Held S) → n ≤ 2 ^ 63 → start + many ≤ n → HasTables (shown old)
+      → ((k : ℕ) → start ≤ k → k < start + many → IsTrue anew ⊎ HasStripe (shown old) k (kept_in (mine_of v k))) → SavesFrom shown anew v w start many old new
+      → ChangesBetween w n start (start + many) (shown old) (shown new)
+  unfolding SavesFrom
+  from_changes anew v w n start zero old new high within has begins same =
+      subst (λ (h : Held S). ChangesBetween w n start (start + zero) (shown old) (shown h)) (sym same)
+      (record { tables = has; mine = λ j up low. absurd (omega (arith, up, low)); lower = λ j table low had. had; upper = λ j table up low had. had })
+  from_changes anew v w n start (suc many) old new high within has begins saves =
+      let k = start + many in
+      let k_low : k < 2 ^ 63 = omega (arith, high, within) in
+      let before = from_changes anew v w n start many old saves.0 high (omega (arith, within)) has (λ j up low. begins j up (omega (arith, low))) saves.1 in
+      let mine : IsTrue anew ⊎ HasStripe (shown saves.0) k (kept_in (mine_of v k)) = elim (begins k (omega arith) (omega arith)) [
         | inl all ↦ inl all
-        | inr had ↦ inr (before.above n (kept_in (mine_of v n)) (omega arith) (omega (arith, high)) had)
+        | inr had ↦ inr (before.upper k (kept_in (mine_of v k)) (omega arith) (omega (arith, within)) had)
       ] in
-      let change = stripe_changes anew v w n saves.0 new before.tables mine saves.2 in
+      let change = stripe_changes anew v w k saves.0 new before.tables mine saves.2 in
       record {
         tables = change.tables;
-        below = λ j low. elim (is_same j n) [
+        mine = λ j up low. elim (same_stripe j k) [
           | inl same ↦ subst (λ i. HasStripe (shown new) i (kept_in (mine_of w i))) (sym same) change.mine
-          | inr apart ↦ change.others j (kept_in (mine_of w j)) (kept_apart j n (omega (arith, low, high)) (omega (arith, high)) apart) (before.below j (lower j n low apart))
+          | inr apart ↦ change.others j (kept_in (mine_of w j)) (kept_apart j k (omega (arith, low, high, within)) k_low apart) (before.mine j up (stripe_below j k (omega (arith, low)) apart))
         ];
-        above = λ j table up low had.
-            change.others j table (kept_apart j n low (omega (arith, high)) (λ e. omega (arith, up, e))) (before.above j table (omega (arith, up)) low had);
+        lower = λ j table low had.
+            change.others j table (kept_apart j k (omega (arith, low, high, within)) k_low (λ e. omega (arith, low, e))) (before.lower j table low had);
+        upper = λ j table up low had.
+            change.others j table (kept_apart j k (omega (arith, low, high)) k_low (λ e. omega (arith, up, e))) (before.upper j table (omega (arith, up)) low had);
       }
-    where
-      is_same : (j n : ℕ) → (j ≡ n) ⊎ (j ≢ n)
-      is_same j n = same_stripe j n
-
-      lower : (j n : ℕ) → j < suc n → j ≢ n → j < n
-      lower j n low apart = stripe_below j n (omega (arith, low)) apart
 
   -- ---- what else is written, and the commit
 
@@ -284,21 +285,108 @@ same_now old new same has = record {
   are = ap (λ (d : Database). map batch_in (d.trees batches_tree)) same;
 }
 
+-- a stripe has what the next rows are added to
+abbrev Begins : Bool → View GhostAction → State → ℕ → Type 0
+Begins anew v file k = IsTrue anew ⊎ HasStripe file k (kept_in (mine_of v k))
+
+begins_still : (anew : Bool) (v : View GhostAction) (k : ℕ) (old new : State) → (HasStripe old k (kept_in (mine_of v k)) → HasStripe new k (kept_in (mine_of v k)))
+    → Begins anew v old k → Begins anew v new k
+begins_still anew v k old new stays (inl all) = inl all
+begins_still anew v k old new stays (inr had) = inr (stays had)
+
+-- what a transaction made that saved these stripes, before it is committed
+part_changes : {S : Type 0} (g : store.Ghosts S) (anew : Bool) (v w : View GhostAction) (stripes start end : ℕ) (old last : Held S) → stripes < 2 ^ 63 → end ≤ stripes
+    → HasTables (state g old) → ((k : ℕ) → start ≤ k → k < end → Begins anew v (state g old) k) → WritesPart (state g) anew v w stripes start end (begun old) last
+    → ChangesBetween w stripes start end (state g old) (state g last)
+part_changes g anew v w stripes start end old last high within has begins writes =
+    let saves = writes.saved in
+    let begins_now = same_now (state g old) (state g (begun old)) refl has in
+    let moved = λ (k : ℕ) (table : Table). stripe_stays k (state g old) (state g (begun old)) table begins_now in
+    let change = subst (λ (n : ℕ). ChangesBetween w stripes start n (state g (begun old)) (state g writes.mid)) saves.are
+    (from_changes (state g) anew v w stripes start saves.many (begun old) writes.mid (omega (arith, high)) (omega (arith, within, saves.are)) begins_now.tables
+    (λ k up low. begins_still anew v k (state g old) (state g (begun old)) (moved k (kept_in (mine_of v k))) (begins k up (omega (arith, low, saves.are)))) saves.saved) in
+    let rest = others_stay (state g) stripes writes.rest.others writes.mid last high writes.rest.are change.tables writes.rest.made in
+    record {
+      tables = rest.0;
+      mine = λ j up low. rest.1 j (kept_in (mine_of w j)) (omega (arith, low, within)) (change.mine j up low);
+      lower = λ j table low had. rest.1 j table (omega (arith, low, within, saves.are)) (change.lower j table low (moved j table had));
+      upper = λ j table up low had. rest.1 j table low (change.upper j table up low (moved j table had));
+    }
+
+-- .. and then it is committed
+committed_changes : (w : View GhostAction) (n start end : ℕ) (old mid new : State) → new.now ≡ mid.now → ChangesBetween w n start end old mid → ChangesBetween w n start end old new
+committed_changes w n start end old mid new same change =
+    let last = same_now mid new same change.tables in
+    record {
+      tables = last.tables;
+      mine = λ j up low. stripe_stays j mid new (kept_in (mine_of w j)) last (change.mine j up low);
+      lower = λ j table low had. stripe_stays j mid new table last (change.lower j table low had);
+      upper = λ j table up low had. stripe_stays j mid new table last (change.upper j table up low had);
+    }
+
+-- more stripes after those below `start`
+changes_then : (w : View GhostAction) (n start end : ℕ) (old mid new : State) → start ≤ end → ChangesBetween w n 0 start old mid → ChangesBetween w n start end mid new
+    → ChangesBetween w n 0 end old new
+changes_then w n start end old mid new more before after = record {
+  tables = after.tables;
+  mine = λ j up low. elim (lower_or_not j start) [
+    | inl less ↦ after.lower j (kept_in (mine_of w j)) less (before.mine j (omega arith) less)
+    | inr beyond ↦ after.mine j beyond low
+  ];
+  lower = λ j table low had. absurd (omega (arith, low));
+  upper = λ j table up low had. after.upper j table up low (before.upper j table (omega (arith, up, more)) low had);
+}
+
+-- .. which one transaction more made
+next_changes : {S : Type 0} (g : store.Ghosts S) (anew : Bool) (v w : View GhostAction) (stripes start end : ℕ) (old : State) (mid last : Held S) → stripes < 2 ^ 63 → end ≤ stripes
+    → ((k : ℕ) → k < stripes → Begins anew v old k) → ChangesBetween w stripes 0 start old (state g mid) → WritesPart (state g) anew v w stripes start end (begun mid) last
+    → ChangesBetween w stripes 0 end old (state g last)
+next_changes g anew v w stripes start end old mid last high within begins before writes =
+    changes_then w stripes start end old (state g mid) (state g last) (omega (arith, writes.saved.are)) before
+    (part_changes g anew v w stripes start end mid last high within before.tables
+    (λ k up low. begins_still anew v k old (state g mid) (before.upper k (kept_in (mine_of v k)) up (omega (arith, low, within))) (begins k (omega (arith, low, within)))) writes)
+
+-- after some parts each stripe below `end` has what was handed out, and the others what they had
+pub parts_changes : {S : Type 0} (g : store.Ghosts S) (anew : Bool) (v w : View GhostAction) (stripes parts end : ℕ) (old new : Held S) → stripes < 2 ^ 63 → end ≤ stripes
+    → HasTables (state g old) → ((k : ℕ) → k < stripes → Begins anew v (state g old) k) → SavesParts (state g) anew v w stripes parts end old new
+    → ChangesBetween w stripes 0 end (state g old) (state g new)
+unfolding SavesParts
+parts_changes g anew v w stripes zero end old new high within has begins saves =
+    subst (λ (h : Held _). ChangesBetween w stripes 0 end (state g old) (state g h)) (sym saves.1)
+    (record { tables = has; mine = λ j up low. absurd (omega (arith, low, saves.0)); lower = λ j table low had. had; upper = λ j table up low had. had })
+parts_changes g anew v w stripes (suc parts) end old new high within has begins saves =
+    let start = saves.1 in
+    let part = saves.3 in
+    let before = parts_changes g anew v w stripes parts start old saves.0 high (omega (arith, within, part.wrote.saved.are)) has begins saves.2 in
+    committed_changes w stripes 0 end (state g old) (state g part.last) (state g new) part.committed.now_is
+    (next_changes g anew v w stripes start end (state g old) saves.0 part.last high within begins before part.wrote)
+
 -- after a save that was committed the file is in step
 pub in_step : {S : Type 0} (g : store.Ghosts S) (anew : Bool) (v w : View GhostAction) (stripes : ℕ) (old new : Held S) → stripes < 2 ^ 63
     → SavesMap (state g) anew v w stripes old new → IsInStep anew v stripes (state g old) → IsInStep false w stripes (state g new)
 in_step g anew v w stripes old new high saves step =
-    let start : Held _ = record old { in_transaction = true } in
-    let tables : HasTables (state g start) = (same_now (state g old) (state g start) refl step.tables).tables in
-    let began = λ (k : ℕ) (low : k < stripes). moved k (step.stripes k low) in
-    let below = below_changes (state g) anew v w stripes start saves.wrote.mid (omega (arith, high)) tables began saves.wrote.saved in
-    let rest = others_stay (state g) stripes saves.wrote.rest.others saves.wrote.mid saves.last high saves.wrote.rest.are below.tables saves.wrote.rest.made in
-    let last = same_now (state g saves.last) (state g new) saves.committed.now_is rest.0 in
+    let change = parts_changes g anew v w stripes (suc saves.0) stripes old new high (omega arith) step.tables step.stripes saves.1 in
+    record { tables = change.tables; stripes = λ k low. inr (change.mine k (omega arith) low) }
+
+-- the stripes are in the trees
+stripe_in_trees : (k : ℕ) (file other : State) (table : Table) → other.now.trees ≡ file.now.trees → HasStripe file k table → HasStripe other k table
+stripe_in_trees k file other table same had = record {
+  changes = had.changes;
+  are = subst (λ (l : List Row). ChangesOf (kept_number k) l had.changes) (ap (λ (trees : Trees). map batch_in (trees batches_tree)) (sym same)) had.are;
+  come_to = had.come_to;
+}
+
+-- what a save would leave that is cut off has each stripe as it was, or as it was handed out
+pub would_leave_stripes : {S : Type 0} (g : store.Ghosts S) (anew : Bool) (v w : View GhostAction) (stripes : ℕ) (old : Held S) (trees : Trees) → stripes < 2 ^ 63
+    → IsInStep anew v stripes (state g old) → WouldSave (state g) anew v w stripes old trees → IsSavedPartly w stripes (state g old) (with_trees (state g old) trees)
+would_leave_stripes g anew v w stripes old trees high step would =
+    let next = would.next in
+    let last = state g next.last in
+    let left = with_trees (state g old) trees in
+    let before = parts_changes g anew v w stripes would.earlier would.start old would.mid high (omega (arith, would.within, next.wrote.saved.are)) step.tables step.stripes would.saved in
+    let change = next_changes g anew v w stripes would.start would.end (state g old) would.mid next.last high would.within step.stripes before next.wrote in
     record {
-      tables = last.tables;
-      stripes = λ k low. inr (stripe_stays k (state g saves.last) (state g new) (kept_in (mine_of w k)) last (rest.1 k (kept_in (mine_of w k)) low (below.below k low)));
+      reached = would.end;
+      saved = λ k low. stripe_in_trees k last left (kept_in (mine_of w k)) next.are (change.mine k (omega arith) low);
+      others = λ k table up low had. stripe_in_trees k last left table next.are (change.upper k table up low had);
     }
-  where
-    moved : (k : ℕ) → IsTrue anew ⊎ HasStripe (state g old) k (kept_in (mine_of v k)) → IsTrue anew ⊎ HasStripe (state g (record old { in_transaction = true })) k (kept_in (mine_of v k))
-    moved k (inl all) = inl all
-    moved k (inr had) = inr (stripe_stays k (state g old) (state g (record old { in_transaction = true })) (kept_in (mine_of v k)) (same_now (state g old) (state g (record old { in_transaction = true })) refl step.tables) had)

@@ -1,5 +1,5 @@
 -- What saves of stripes come to, one after the other.
-use Rattle.std.proofs.Common.{◌≡◌, ◌∙◌, ◌≢◌, ◌⊎◌, ◌+◌, ◌<◌, ℕ, zero, suc, false, List, [], ◌∷◌, ◌++◌, All, refl, sym, ap, subst, inl, inr, arith}
+use Rattle.std.proofs.Common.{◌≡◌, ◌∙◌, ◌≢◌, ◌⊎◌, ◌+◌, ◌<◌, ◌≤◌, ℕ, zero, suc, false, List, [], ◌∷◌, ◌++◌, All, refl, sym, ap, subst, inl, inr, arith}
 use Rattle.std.proofs.lemmas.List.{append-nil, append_assoc}
 use Rattle.std.proofs.lemmas.List.Elements.{All-nil, All-cons, All-append}
 use Rattle.atomic_table.specs.Seated.{TableId}
@@ -86,10 +86,19 @@ below (suc j) (suc k) low apart =
     let less : j < k = below j k (omega (arith, low)) (λ e. apart (ap suc e)) in
     omega (arith, less)
 
--- with the stripe k the first k + 1 are whole
-pub one_more : (old new : PassState) (k : ℕ) → ServesSameMap old new → ((j : ℕ) → j ≢ k → Keeps old.view new.view j)
-    → ((j : ℕ) → j < k → IsWhole old j) → IsWhole new k → (j : ℕ) → j < k + 1 → IsWhole new j
-one_more old new k same elsewhere before here j low = elim (same_or_not j k) [
+-- with the stripe k those up to k + 1 are whole
+pub one_more : (old new : PassState) (start k : ℕ) → ServesSameMap old new → ((j : ℕ) → j ≢ k → Keeps old.view new.view j)
+    → ((j : ℕ) → start ≤ j → j < k → IsWhole old j) → IsWhole new k → (j : ℕ) → start ≤ j → j < k + 1 → IsWhole new j
+one_more old new start k same elsewhere before here j up low = elim (same_or_not j k) [
   | inl e ↦ subst (IsWhole new) (sym e) here
-  | inr apart ↦ whole_kept old new j same (elsewhere j apart) (before j (below j k (omega (arith, low)) apart))
+  | inr apart ↦ whole_kept old new j same (elsewhere j apart) (before j up (below j k (omega (arith, low)) apart))
+]
+
+pub lower_or_not : (j n : ℕ) → (j < n) ⊎ (n ≤ j)
+lower_or_not zero zero = inr (omega arith)
+lower_or_not zero (suc n) = inl (omega arith)
+lower_or_not (suc j) zero = inr (omega arith)
+lower_or_not (suc j) (suc n) = elim (lower_or_not j n) [
+  | inl low ↦ inl (omega (arith, low))
+  | inr up ↦ inr (omega (arith, up))
 ]

@@ -1,13 +1,11 @@
 -- Statements one after the other, and the rows that they are of.
-use Rattle.std.proofs.Common.{◌≡◌, ◌==◌, ◌∙◌, ◌≢◌, ◌+◌, ◌<◌, ℕ, zero, suc, Bool, All, IsTrue, true, if◌then◌else◌, List, [], ◌∷◌, ◌++◌, map, length, Result, Ok, Err, OnOk, refl, sym, ap, subst, inl, inr, arith, add-one, length-append}
+use Rattle.std.proofs.Common.{◌≡◌, ◌==◌, ◌∙◌, ◌≢◌, ◌+◌, ◌<◌, ◌≤◌, ℕ, zero, suc, Bool, All, IsTrue, true, if◌then◌else◌, List, [], ◌∷◌, ◌++◌, map, length, Result, Ok, Err, IfErr, OnOk, refl, sym, ap, subst, inl, inr, arith, length-append}
 use Rattle.std.proofs.lemmas.Bool.Decides.{nat_tests}
 use Rattle.std.proofs.lemmas.List.{append-nil, append_assoc, map-append}
 use Rattle.std.proofs.lemmas.List.Elements.{All-nil, All-cons, All-append}
-use Rattle.sqlite.specs.Held.{Held, state}
-use Rattle.sqlite.specs.Store as store
+use Rattle.sqlite.specs.Held.{Held}
 use Rattle.sqlite.specs.Tree.{Trees}
 use Rattle.sqlite.specs.State.{State, HasCleanDisk, Survives}
-use Rattle.sqlite.proofs.Callers.{survives_begin}
 use Rattle.sqlite.proofs.StateLemmas.{survives_then}
 use Rattle.stripe_rule.specs.declared.view.Event.{Event}
 use Rattle.stripe_rule.specs.declared.view.View.{View}
@@ -24,7 +22,7 @@ use Rattle.bin_stripes.specs.Actions.{Action, saved}
 use Rattle.bin_stripes.specs.Passes.{PassState}
 use Rattle.bin_stripes.specs.Saves.{SavesStripe as Saves}
 use Rattle.map_keeper.proofs.SaveLemmas.{same_or_not, below}
-use Rattle.map_keeper.specs.Written.{BeginsAnew, IsFit, Round, action_of, rows_of, statement_of, statements_of, statements_in, HandsOut, EndsWithOwn, IsSavedSince, IsOther, MakesAll, Pending, SavesStripe, SavesBelow, WouldSave, WritesAll, WritesOthers, WritesRound, WritesRows}
+use Rattle.map_keeper.specs.Written.{BeginsAnew, IsFit, Round, action_of, rows_of, statement_of, statements_of, statements_in, HandsOut, EndsWithOwn, IsSavedSince, IsOther, MakesAll, Pending, SavesStripe, SavesBetween, SavesFrom, WritesOthers, WritesRound, WritesRows}
 
 -- a list of no length has nothing
 pub none_left : (bytes : List ℕ) → (length bytes == 0) ≡ true → bytes ≡ []
@@ -171,6 +169,10 @@ on_ok (Err e) P Q f p = tt
 pub on_any : {A E : Type 0} (r : Result A E) (P : Type 0) → P → OnOk r P
 on_any (Ok x) P p = p
 on_any (Err e) P p = tt
+
+pub on_err : {A E : Type 0} (r : Result A E) (P : Type 0) → P → IfErr r (λ _. P)
+on_err (Ok x) P p = tt
+on_err (Err e) P p = p
 
 -- clean now, so clean before
 pub clean_before : (old new : State) (P : Trees → Type 0) → Survives old new P → HasCleanDisk new → HasCleanDisk old
@@ -325,26 +327,58 @@ module _ {S : Type 0} (shown : Held S → State) where
   pub stripe_after : (anew : Bool) (v u w : View GhostAction) (k : ℕ) (a b : Held S) → Keeps v u k → SavesStripe shown anew u w k a b → SavesStripe shown anew v w k a b
   stripe_after anew v u w k a b keeps saves = record { rounds = saves.rounds; ends = ends_after anew v u w k saves.rounds keeps saves.ends; fit = saves.fit; made = saves.made }
 
-  pub below_none : (anew : Bool) (v : View GhostAction) (a : Held S) → SavesBelow shown anew v v 0 a a
-  unfolding SavesBelow
-  below_none anew v a = refl
+  -- no stripe yet
+  pub between_none : (anew : Bool) (v : View GhostAction) (start : ℕ) (a : Held S) → SavesBetween shown anew v v start start a a
+  unfolding SavesFrom
+  between_none anew v start a = record { many = 0; are = omega arith; saved = refl }
 
-  below_kept : (anew : Bool) (v u w : View GhostAction) (n : ℕ) (a b : Held S) → ((j : ℕ) → j < n → Keeps u w j) → SavesBelow shown anew v u n a b → SavesBelow shown anew v w n a b
-  unfolding SavesBelow
-  below_kept anew v u w zero a b keeps saves = saves
-  below_kept anew v u w (suc n) a b keeps saves =
-      (saves.0, below_kept anew v u w n a saves.0 (λ j low. keeps j (omega (arith, low))) saves.1, stripe_kept anew v u w n saves.0 b saves.2 (keeps n (omega arith)))
+  from_kept : (anew : Bool) (v u w : View GhostAction) (start many : ℕ) (a b : Held S) → ((j : ℕ) → start ≤ j → j < start + many → Keeps u w j)
+      → SavesFrom shown anew v u start many a b → SavesFrom shown anew v w start many a b
+  unfolding SavesFrom
+  from_kept anew v u w start zero a b keeps saves = saves
+  from_kept anew v u w start (suc many) a b keeps saves = (
+    saves.0,
+    from_kept anew v u w start many a saves.0 (λ j up low. keeps j up (omega (arith, low))) saves.1,
+    stripe_kept anew v u w (start + many) saves.0 b saves.2 (keeps (start + many) (omega arith) (omega arith)),
+  )
 
-  below_suc : (anew : Bool) (v w : View GhostAction) (n : ℕ) (a b c : Held S) → SavesBelow shown anew v w n a b → SavesStripe shown anew v w n b c → SavesBelow shown anew v w (suc n) a c
-  unfolding SavesBelow
-  below_suc anew v w n a b c before here = (b, before, here)
+  from_after : (anew : Bool) (v u w : View GhostAction) (start many : ℕ) (a b : Held S) → ((j : ℕ) → start ≤ j → j < start + many → Keeps v u j)
+      → SavesFrom shown anew u w start many a b → SavesFrom shown anew v w start many a b
+  unfolding SavesFrom
+  from_after anew v u w start zero a b keeps saves = saves
+  from_after anew v u w start (suc many) a b keeps saves = (
+    saves.0,
+    from_after anew v u w start many a saves.0 (λ j up low. keeps j up (omega (arith, low))) saves.1,
+    stripe_after anew v u w (start + many) saves.0 b (keeps (start + many) (omega arith) (omega arith)) saves.2,
+  )
+
+  from_suc : (anew : Bool) (v w : View GhostAction) (start many : ℕ) (a b c : Held S) → SavesFrom shown anew v w start many a b → SavesStripe shown anew v w (start + many) b c
+      → SavesFrom shown anew v w start (suc many) a c
+  unfolding SavesFrom
+  from_suc anew v w start many a b c before here = (b, before, here)
+
+  -- what was saved stays so if the pass then learns nothing of these stripes
+  pub between_kept : (anew : Bool) (v u w : View GhostAction) (start end : ℕ) (a b : Held S) → ((j : ℕ) → j < end → Keeps u w j) → SavesBetween shown anew v u start end a b
+      → SavesBetween shown anew v w start end a b
+  between_kept anew v u w start end a b keeps saves =
+      record { many = saves.many; are = saves.are; saved = from_kept anew v u w start saves.many a b (λ j up low. keeps j (omega (arith, low, saves.are))) saves.saved }
+
+  -- .. or if it had learned nothing of them before
+  pub between_after : (anew : Bool) (v u w : View GhostAction) (start end : ℕ) (a b : Held S) → ((j : ℕ) → start ≤ j → Keeps v u j) → SavesBetween shown anew u w start end a b
+      → SavesBetween shown anew v w start end a b
+  between_after anew v u w start end a b keeps saves =
+      record { many = saves.many; are = saves.are; saved = from_after anew v u w start saves.many a b (λ j up low. keeps j up) saves.saved }
 
   -- one stripe more
-  pub below_more : (anew : Bool) (v u w : View GhostAction) (n : ℕ) (a b c : Held S) → SavesBelow shown anew v u n a b → Keeps v u n → ((j : ℕ) → j ≢ n → Keeps u w j)
-      → SavesStripe shown anew u w n b c → SavesBelow shown anew v w (n + 1) a c
-  below_more anew v u w n a b c before fresh elsewhere here =
-      subst (λ (m : ℕ). SavesBelow shown anew v w m a c) (sym (add-one n))
-      (below_suc anew v w n a b c (below_kept anew v u w n a b (λ j low. elsewhere j (λ e. omega (arith, low, e))) before) (stripe_after anew v u w n b c fresh here))
+  pub between_more : (anew : Bool) (v u w : View GhostAction) (start k : ℕ) (a b c : Held S) → SavesBetween shown anew v u start k a b → Keeps v u k → ((j : ℕ) → j ≢ k → Keeps u w j)
+      → SavesStripe shown anew u w k b c → SavesBetween shown anew v w start (k + 1) a c
+  between_more anew v u w start k a b c before fresh elsewhere here = record {
+    many = suc before.many;
+    are = omega (arith, before.are);
+    saved = from_suc anew v w start before.many a b c
+        (from_kept anew v u w start before.many a b (λ j up low. elsewhere j (λ e. omega (arith, low, e, before.are))) before.saved)
+        (subst (λ (i : ℕ). SavesStripe shown anew v w i b c) (sym before.are) (stripe_after anew v u w k b c fresh here));
+  }
 
   pub others_none : (stripes : ℕ) (a : Held S) → WritesOthers shown stripes a a
   others_none stripes a = record { others = []; are = All-nil (IsOther stripes); made = makes_none a }
@@ -362,20 +396,9 @@ module _ {S : Type 0} (shown : Held S → State) where
   }
 
 -- one stripe more is saved
-pub since_more : (anew : Bool) (v u w : View GhostAction) (k : ℕ) → Keeps v u k → ((j : ℕ) → j ≢ k → Keeps u w j) → ((j : ℕ) → j < k → IsSavedSince anew v u j)
-    → IsSavedSince anew u w k → (j : ℕ) → j < k + 1 → IsSavedSince anew v w j
-since_more anew v u w k fresh elsewhere before here j low = elim (same_or_not j k) [
+pub since_more : (anew : Bool) (v u w : View GhostAction) (start k : ℕ) → Keeps v u k → ((j : ℕ) → j ≢ k → Keeps u w j) → ((j : ℕ) → start ≤ j → j < k → IsSavedSince anew v u j)
+    → IsSavedSince anew u w k → (j : ℕ) → start ≤ j → j < k + 1 → IsSavedSince anew v w j
+since_more anew v u w start k fresh elsewhere before here j up low = elim (same_or_not j k) [
   | inl e ↦ subst (IsSavedSince anew v w) (sym e) (since_after anew v u w k fresh here)
-  | inr apart ↦ since_kept anew v u w j (before j (below j k (omega (arith, low)) apart)) (elsewhere j apart)
+  | inr apart ↦ since_kept anew v u w j (before j up (below j k (omega (arith, low)) apart)) (elsewhere j apart)
 ]
-
--- a transaction that may be committed leaves what there was, or what it wrote
-pub crash_committed : {S : Type 0} (g : store.Ghosts S) (anew : Bool) (v w : View GhostAction) (stripes : ℕ) (old last end : Held S)
-    → Survives (state g (record old { in_transaction = true })) (state g last) (λ _. ⊥)
-    → Survives (state g last) (state g end) (λ db. db ≡ (state g last).now.trees)
-    → (HasCleanDisk (state g last) → WritesAll (state g) anew v w stripes (record old { in_transaction = true }) last)
-    → Survives (state g old) (state g end) (WouldSave (state g) anew v w stripes old)
-crash_committed g anew v w stripes old last end inside committed wrote =
-    survives_then (state g old) (state g last) (state g end) _ _ (WouldSave (state g) anew v w stripes old) (λ _ db none. absurd none)
-    (λ clean db is. record { last = last; wrote = wrote (clean_before (state g last) (state g end) _ committed clean); are = is })
-    (survives_begin g old (state g last) _ inside) committed

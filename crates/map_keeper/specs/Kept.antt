@@ -1,7 +1,8 @@
 -- What a file has of a stripe, against what was handed out of it.
-use Rattle.std.specs.Prelude.{◌≡◌, ◌⊎◌, ◌==◌, ℕ, ◌<◌, Bool, true, List, filter, All, IsTrue}
+use Rattle.std.specs.Prelude.{◌≡◌, ◌⊎◌, ◌==◌, ℕ, ◌<◌, ◌≤◌, Bool, true, List, filter, All, IsTrue}
 use Rattle.std.specs.FinMap as finite
 use Rattle.sqlite.specs.State.{State}
+use Rattle.sqlite.specs.Tree.{Trees}
 use Rattle.bins.specs.Table.{Table}
 use Rattle.noted_bins.specs.Rows.{put_rows, values_of}
 use Rattle.kept_file.specs.Changes.{Change}
@@ -31,6 +32,16 @@ pub record HasStripe (file : State) (k : ℕ) (table : Table) : Type 0 where
 pub record IsInStep (anew : Bool) (view : View GhostAction) (n : ℕ) (file : State) : Type 0 where
   pub tables : HasTables file
   pub stripes : (k : ℕ) → k < n → IsTrue anew ⊎ HasStripe file k (kept_in (mine_of view k))
+
+-- the file as it is when it has these trees
+abbrev pub with_trees : State → Trees → State
+with_trees file trees = record file { now = record file.now { trees = trees } }
+
+-- of the stripes below `reached` the file has what the rows come to that a pass handed out; of the others below n just what it had before
+pub record IsSavedPartly (view : View GhostAction) (n : ℕ) (before after : State) : Type 0 where
+  pub reached : ℕ
+  pub saved : (k : ℕ) → k < reached → HasStripe after k (kept_in (mine_of view k))
+  pub others : (k : ℕ) (table : Table) → reached ≤ k → k < n → HasStripe before k table → HasStripe after k table
 
 -- those of the stripe k
 abbrev pub of_stripe : ℕ → List StripeChange → List Change

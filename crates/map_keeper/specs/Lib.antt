@@ -3,3 +3,4 @@ pub mod Saves
 pub mod Restores
 pub mod Written
 pub mod Kept
+pub mod Parts

@@ -1,5 +1,5 @@
 -- What a save writes into its file: the statements that the rows ask for which it hands out.
-use Rattle.std.specs.Prelude.{◌≡◌, ◌⊎◌, ℕ, zero, suc, ◌≤◌, Bool, if◌then◌else◌, List, [], ◌∷◌, ◌++◌, map, flat_map, All, IsTrue, true, false, ⊤}
+use Rattle.std.specs.Prelude.{◌≡◌, ◌==◌, ◌||◌, ◌⊎◌, ℕ, zero, suc, ◌+◌, ◌≤◌, Bool, if◌then◌else◌, List, [], ◌∷◌, ◌++◌, map, flat_map, All, IsTrue, true, false, ⊤}
 use Rattle.sqlite.specs.Held.{Held}
 use Rattle.sqlite.specs.State.{State, Shows}
 use Rattle.sqlite.specs.Tree.{Trees}
@@ -82,6 +82,15 @@ IsOther stripes statement =
     ⊎ (((text : List ℕ) × (statement ≡ adding_script text))
     ⊎ ((at : ℕ) × (sizes : Sizes) × (bytes : List ℕ) × (statement ≡ adding_program at sizes bytes))))
 
+-- a map of so many stripes may be saved in several transactions: its file has none, or as many. Of another number a part could take a stripe out
+-- of the file whose entries are in later stripes of the map
+abbrev pub may_part : ℕ → ℕ → Bool
+may_part had stripes = (had == 0) || (had == stripes)
+
+-- a connection, in a transaction that has begun
+abbrev pub begun : {S : Type 0} → Held S → Held S
+begun held = record held { in_transaction = true }
+
 -- what a connection over the store S shows is `shown`
 module _ {S : Type 0} (shown : Held S → State) where
   -- these statements were made one after the other
@@ -119,10 +128,16 @@ module _ {S : Type 0} (shown : Held S → State) where
     pub fit : All IsFit rounds
     pub made : MakesAll (statements_in k rounds) from to
 
-  -- .. each stripe below n, in their order
-  unfoldable pub SavesBelow : Bool → View GhostAction → View GhostAction → ℕ → Held S → Held S → Type 0
-  SavesBelow anew old new zero from to = to ≡ from
-  SavesBelow anew old new (suc k) from to = (mid : Held S) × SavesBelow anew old new k from mid × SavesStripe anew old new k mid to
+  -- .. so many stripes from `start` on, in their order
+  unfoldable pub SavesFrom : Bool → View GhostAction → View GhostAction → ℕ → ℕ → Held S → Held S → Type 0
+  SavesFrom anew old new start zero from to = to ≡ from
+  SavesFrom anew old new start (suc many) from to = (mid : Held S) × SavesFrom anew old new start many from mid × SavesStripe anew old new (start + many) mid to
+
+  -- .. those from `start` up to `end`, which is not among them
+  pub record SavesBetween (anew : Bool) (old new : View GhostAction) (start end : ℕ) (from to : Held S) : Type 0 where
+    pub many : ℕ
+    pub are : start + many ≡ end
+    pub saved : SavesFrom anew old new start many from to
 
   -- statements were made that no entry of a stripe of the map has to do with
   pub record WritesOthers (stripes : ℕ) (from to : Held S) : Type 0 where
@@ -130,20 +145,39 @@ module _ {S : Type 0} (shown : Held S → State) where
     pub are : All (IsOther stripes) others
     pub made : MakesAll others from to
 
-  -- all stripes of a map of so many, and then the rest
-  pub record WritesAll (anew : Bool) (old new : View GhostAction) (stripes : ℕ) (from to : Held S) : Type 0 where
+  -- the stripes from `start` up to `end` of a map of so many were saved, and then such statements were made
+  pub record WritesPart (anew : Bool) (old new : View GhostAction) (stripes start end : ℕ) (from to : Held S) : Type 0 where
     pub mid : Held S
-    pub saved : SavesBelow anew old new stripes from mid
+    pub saved : SavesBetween anew old new start end from mid
     pub rest : WritesOthers stripes mid to
 
   -- one transaction made just that, and was committed
-  pub record SavesMap (anew : Bool) (old new : View GhostAction) (stripes : ℕ) (from to : Held S) : Type 0 where
+  pub record SavesPart (anew : Bool) (old new : View GhostAction) (stripes start end : ℕ) (from to : Held S) : Type 0 where
     pub last : Held S
-    pub wrote : WritesAll anew old new stripes (record from { in_transaction = true }) last
+    pub wrote : WritesPart anew old new stripes start end (begun from) last
     pub committed : Shows (shown last) (shown to) (shown last).now (shown last).now false
 
-  -- what that transaction would leave if it is committed
-  pub record WouldSave (anew : Bool) (old new : View GhostAction) (stripes : ℕ) (from : Held S) (trees : Trees) : Type 0 where
+  -- so many such transactions, each from where the one before it ended, saved the stripes below `end`
+  unfoldable pub SavesParts : Bool → View GhostAction → View GhostAction → ℕ → ℕ → ℕ → Held S → Held S → Type 0
+  SavesParts anew old new stripes zero end from to = (end ≡ 0) × (to ≡ from)
+  SavesParts anew old new stripes (suc parts) end from to = (mid : Held S) × (start : ℕ) × SavesParts anew old new stripes parts start from mid × SavesPart anew old new stripes start end mid to
+
+  -- one or more of them saved all stripes of a map of so many
+  abbrev pub SavesMap : Bool → View GhostAction → View GhostAction → ℕ → Held S → Held S → Type 0
+  SavesMap anew old new stripes from to = (earlier : ℕ) × SavesParts anew old new stripes (suc earlier) stripes from to
+
+  -- what one would leave if it is committed
+  pub record WouldCommit (anew : Bool) (old new : View GhostAction) (stripes start end : ℕ) (from : Held S) (trees : Trees) : Type 0 where
     pub last : Held S
-    pub wrote : WritesAll anew old new stripes (record from { in_transaction = true }) last
+    pub wrote : WritesPart anew old new stripes start end (begun from) last
     pub are : trees ≡ (shown last).now.trees
+
+  -- .. after earlier ones, if any
+  pub record WouldSave (anew : Bool) (old new : View GhostAction) (stripes : ℕ) (from : Held S) (trees : Trees) : Type 0 where
+    pub earlier : ℕ
+    pub start : ℕ
+    pub mid : Held S
+    pub saved : SavesParts anew old new stripes earlier start from mid
+    pub end : ℕ
+    pub within : end ≤ stripes
+    pub next : WouldCommit anew old new stripes start end mid trees

@@ -4,21 +4,22 @@ ghost use Rattle.stripe_rule.specs.Gains.{seen_of};
 ghost use Rattle.bin_stripes.specs.Passes.{ServesSameMap, stripes_of};
 ghost use Rattle.sqlite.specs.Held.{state};
 ghost use Rattle.sqlite.specs.State.{HasCleanDisk, Survives};
+ghost use Rattle.sqlite.specs.Tree.{Trees};
 ghost use Rattle.kept_file.specs.Content.{HasTables};
-ghost use Rattle.map_keeper.specs.Kept.{HasContent, IsInStep, OnlySaves};
+ghost use Rattle.map_keeper.specs.Kept.{HasContent, IsInStep, IsSavedPartly, OnlySaves, with_trees};
 ghost use Rattle.map_keeper.specs.Saves.{IsWhole, MadeOnlySaves};
-ghost use Rattle.map_keeper.specs.Written.{IsSavedSince, SavesMap, WouldSave};
+ghost use Rattle.map_keeper.specs.Written.{IsSavedSince, SavesMap, WouldCommit, WouldSave, may_part};
 
 use crate::fault::RestoreFault;
 use crate::taker::Taker;
 use bin_stripes::{Pass, StripedMap};
-use kept_file::{Batch, KeepFault, KeptFile, OnDisk};
-use noted_bins::Changes;
+use kept_file::{KeepFault, KeptFile, OnDisk};
 use program_registry::Registry;
 use redis_scripts::Scripts;
 use sqlite::Alter;
 use std::alloc::Global;
 use std::sync::Wait;
+use std::time::Duration;
 
 /// What is kept: a map, its programs and its scripts.
 #[derive(Clone, Copy)]
@@ -77,10 +78,20 @@ pub(crate) struct Had {
     pub(crate) takes_anew: bool,
 }
 
+impl Had {
+    /// Tests whether a map of so many stripes may be saved in several transactions: the file has no stripes, or as many. If it has another
+    /// number, what it has of a key may be in another stripe, and a part would take it away before it has it in the new one.
+    pub(crate) fn may_part(&self, stripes: u64) -> bool
+        ensures { result ≡ may_part self.now.in_file.stripes stripes }
+    {
+        let had = self.in_file.stripes;
+        had == 0 || had == stripes
+    }
+}
+
 /// Keeps a map in a file over this store, by a pass of its own.
 #[derive(Drop)]
 pub struct Keeper<S: Alter> {
-    pub(crate) alloc: Global,
     pub(crate) file: KeptFile<S>,
     pub(crate) taker: Taker,
     pub(crate) in_file: InFile,
@@ -100,14 +111,8 @@ impl<S: Alter + Drop> Keeper<S> {
         let mut file = file;
         let stripes = file.stripes()?;
         Ok(Keeper {
-            alloc,
             file,
-            taker: Taker {
-                pass,
-                changes: Changes::new(alloc),
-                batch: Batch::new(alloc),
-                rows: 0,
-            },
+            taker: Taker::new(alloc, pass),
             in_file: InFile {
                 stripes,
                 programs: 0,
@@ -118,11 +123,18 @@ impl<S: Alter + Drop> Keeper<S> {
         })
     }
 
-    /// Saves what changed since the last save, in one transaction of the file: of each stripe the rows of the keys that changed, or of
-    /// all its entries if the last save failed, none came before, or the file has got long; and programs and scripts that are new. `NoMemory` if a request for
-    /// memory was refused, else a fault of the file; the file stays as it was then. Waits for stripes that others hold, each for a
-    /// moment.
-    pub fn save<R: Wait>(&mut self, rt: &R, shared: &Shared<'_, '_>) -> Result<(), KeepFault>
+    /// Saves what changed since the last save: of each stripe the rows of the keys that changed, or of all its entries if the last save
+    /// failed, none came before, or the file has got long; and programs and scripts that are new. A save of less than 1 MiB is one transaction
+    /// of the file. A longer one makes several: each takes stripes until its batches come to 1 MiB, and is committed. But it is one if the
+    /// file has another number of stripes than the map. It rests for this time after each batch of some 16 KiB, with no stripe held.
+    /// `NoMemory` if a request for memory was refused, else a fault of the file. The file then has of each stripe what it had, or what this
+    /// save took of it; and the next save takes all anew. Waits for stripes that others hold, each for a moment.
+    pub fn save<R: Wait>(
+        &mut self,
+        rt: &R,
+        shared: &Shared<'_, '_>,
+        rest: Duration,
+    ) -> Result<(), KeepFault>
         requires map { self.old.taker.pass.map ≡ shared.now.map.now }
         ensures same { ServesSameMap self.old.taker.pass self.new.taker.pass }
         ensures made { MadeOnlySaves self.old.taker.pass.view self.new.taker.pass.view }
@@ -139,6 +151,12 @@ impl<S: Alter + Drop> Keeper<S> {
             → HasContent (state S.Store self.new.file.conn) self.new.taker.pass k) }
         ensures crash { Survives (state S.Store self.old.file.conn) (state S.Store self.new.file.conn)
             (WouldSave (state S.Store) self.old.takes_anew self.old.taker.pass.view self.new.taker.pass.view (stripes_of shared.now.map.now) self.old.file.conn) }
+        ensures at_once { may_part self.old.in_file.stripes (stripes_of shared.now.map.now) ≡ false → Survives (state S.Store self.old.file.conn) (state S.Store self.new.file.conn)
+            (WouldCommit (state S.Store) self.old.takes_anew self.old.taker.pass.view self.new.taker.pass.view (stripes_of shared.now.map.now) 0 (stripes_of shared.now.map.now) self.old.file.conn) }
+        ensures found { stripes_of shared.now.map.now < 2 ^ 63
+            → IsInStep self.old.takes_anew self.old.taker.pass.view (stripes_of shared.now.map.now) (state S.Store self.old.file.conn)
+            → (trees : Trees) → WouldSave (state S.Store) self.old.takes_anew self.old.taker.pass.view self.new.taker.pass.view (stripes_of shared.now.map.now) self.old.file.conn trees
+            → IsSavedPartly self.new.taker.pass.view (stripes_of shared.now.map.now) (state S.Store self.old.file.conn) (with_trees (state S.Store self.old.file.conn) trees) }
         ensures err { OnErr result (self.new.takes_anew ≡ true) }
     {
         let had = Had {
@@ -146,8 +164,9 @@ impl<S: Alter + Drop> Keeper<S> {
             takes_anew: self.takes_anew,
         };
         self.takes_anew = true;
+        self.taker.writer.rest = rest;
         let conn = self.file.connection();
-        let in_file = self.taker.save_all(rt, self.alloc, shared, &had, conn)?;
+        let in_file = self.taker.save_all(rt, shared, &had, conn)?;
         self.in_file = in_file;
         self.log = self.log.after(self.taker.rows, had.takes_anew);
         self.takes_anew = self.log.is_long();

@@ -328,8 +328,8 @@ impl<S: Alter> Keeper<S> {
         ensures unchanged { HasCleanDisk (state S.Store self.new.file.conn) → OnOk result (IsUnchanged (state S.Store self.old.file.conn) (state S.Store self.new.file.conn)) }
         ensures kept { OnOk result (Survives (state S.Store self.old.file.conn) (state S.Store self.new.file.conn) (λ _. ⊥)) }
     {
-        let programs = self.file.programs(self.alloc)?;
-        let tokens = register_all(rt, self.alloc, registry, &programs)?;
+        let programs = self.file.programs(self.taker.alloc)?;
+        let tokens = register_all(rt, self.taker.alloc, registry, &programs)?;
         self.in_file.programs = programs.len() as u64;
         Ok(tokens)
     }
@@ -346,8 +346,8 @@ impl<S: Alter> Keeper<S> {
         ensures unchanged { HasCleanDisk (state S.Store self.new.file.conn) → OnOk result (IsUnchanged (state S.Store self.old.file.conn) (state S.Store self.new.file.conn)) }
         ensures kept { OnOk result (Survives (state S.Store self.old.file.conn) (state S.Store self.new.file.conn) (λ _. ⊥)) }
     {
-        let texts = self.file.scripts(self.alloc)?;
-        let loaded = load(rt, self.alloc, scripts, &texts)?;
+        let texts = self.file.scripts(self.taker.alloc)?;
+        let loaded = load(rt, self.taker.alloc, scripts, &texts)?;
         self.in_file.scripts = texts.len();
         Ok(loaded)
     }
@@ -372,7 +372,7 @@ impl<S: Alter> Keeper<S> {
             time: now,
         };
         let conn = self.file.connection();
-        replay.make_from(rt, self.alloc, &mut self.taker.pass, conn)?;
+        replay.make_from(rt, self.taker.alloc, &mut self.taker.pass, conn)?;
         Ok(count_all(rt, map, &mut self.taker.pass))
     }
 

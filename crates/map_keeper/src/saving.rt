@@ -88,7 +88,11 @@ fn drop_stripes<S: Alter>(from: u64, to: u64, save: &mut Save<'_, S>) -> Result<
 }
 
 /// Notes how many stripes the map has, and takes those out of the file that it has no more.
-fn write_width<S: Alter>(had: u64, stripes: u64, save: &mut Save<'_, S>) -> Result<(), KeepFault>
+pub(crate) fn write_width<S: Alter>(
+    had: u64,
+    stripes: u64,
+    save: &mut Save<'_, S>,
+) -> Result<(), KeepFault>
     ensures same_reference { save.new.conn.ghost_name ≡ save.old.conn.ghost_name }
     ensures wrote { HasCleanDisk (state S.Store save.new.conn.now) → OnOk result
         (WritesOthers (state S.Store) stripes save.old.conn.now save.new.conn.now) }

@@ -2,7 +2,7 @@ use Rattle.std.proofs.Common.{subst}
 use Rattle.bin_stripes.specs.Passes.{stripes_of}
 use Rattle.sqlite.specs.Held.{Held, state}
 use Rattle.map_keeper.specs.Written.{SavesMap}
-use Rattle.map_keeper.proofs.KeptLemmas.{in_step}
+use Rattle.map_keeper.proofs.KeptLemmas.{in_step, would_leave_stripes}
 use Rattle.map_keeper.proofs.HistoryLemmas.{content_of}
 use Rattle.map_keeper.proofs.keeper.Keeper.save.Goals as goal
 
@@ -30,3 +30,14 @@ pub returns-clause-content : goal.returns-clause-content
 returns-clause-content g c clean high step k q low one only =
     content_of c.save_all.new.self.pass (state g.S.Store c.save_all.new.conn) (stripes_of c.args.shared.now.map.now) q k c.vouch.ensures.sound one only
     (c.in_ok-in_file.ensures.whole k low) low (returns-clause-file g c clean high step)
+
+-- what a save would leave that is cut off
+pub returns-clause-found : goal.returns-clause-found
+returns-clause-found g c high step trees would =
+    would_leave_stripes g.S.Store c.args.self.now.takes_anew c.args.self.now.taker.pass.view c.save_all.new.self.pass.view (stripes_of c.args.shared.now.map.now) c.args.self.now.file.conn
+    trees high step would
+
+pub returns-in_err-in_file-clause-found : goal.returns-in_err-in_file-clause-found
+returns-in_err-in_file-clause-found g c high step trees would =
+    would_leave_stripes g.S.Store c.args.self.now.takes_anew c.args.self.now.taker.pass.view c.save_all.new.self.pass.view (stripes_of c.args.shared.now.map.now) c.args.self.now.file.conn
+    trees high step would

@@ -1,5 +1,5 @@
 use Rattle.map_keeper.proofs.WriteLemmas.{clean_before, kept_then, on_ok}
-use Rattle.map_keeper.proofs.taker.write_round.Goals as goal
+use Rattle.map_keeper.proofs.taker.BatchWriter.write_round.Goals as goal
 
 -- what the file had goes first, and then come the rows
 pub returns-clause-made : goal.returns-clause-made

@@ -6,7 +6,7 @@ use Rattle.noted_bins.specs.Rows.{Row}
 use Rattle.kept_file.proofs.RowLemmas.{all_taken}
 use Rattle.map_keeper.specs.Written.{Pending}
 use Rattle.map_keeper.proofs.WriteLemmas.{clean_before, kept_then, on_ok, pending_more, pending_none, survives_same}
-use Rattle.map_keeper.proofs.taker.write_rows.Goals as goal
+use Rattle.map_keeper.proofs.taker.BatchWriter.write_rows.Goals as goal
 
 pub loop-place-init : goal.loop-place-init
 loop-place-init g c = record {
@@ -27,9 +27,9 @@ loop-place-preserved g c =
       pending = λ clean.
           let early = clean_before _ _ _ c.write_full.ensures.kept clean in
           let is : take (place + 1) rows ≡ take place rows ++ row ∷ [] = take_more rows place _ (omega arith) ∙ ap (λ (r : Row). take place rows ++ r ∷ []) (sym c.get.ensures.row) in
-          subst (λ (l : List Row). Pending (state g.S.Store) c.args.stripe l c.write_full.new.batch.bytes.items c.args.save.now.conn.now c.write_full.new.save.conn.now) (sym is)
+          subst (λ (l : List Row). Pending (state g.S.Store) c.args.stripe l c.write_full.new.self.batch.bytes.items c.args.save.now.conn.now c.write_full.new.save.conn.now) (sym is)
           (c.in_ok-write_full.ensures.wrote clean (take place rows ++ row ∷ []) c.args.save.now.conn.now
-          (pending_more (state g.S.Store) c.args.stripe (take place rows) row c.loop-place.batch.bytes.items c.push.new.batch.bytes.items c.args.save.now.conn.now c.loop-place.save.conn.now
+          (pending_more (state g.S.Store) c.args.stripe (take place rows) row c.loop-place.self.batch.bytes.items c.push.new.batch.bytes.items c.args.save.now.conn.now c.loop-place.save.conn.now
           (before.pending early) c.in_ok-push.ensures.0 c.in_ok-push.ensures.1));
       kept = kept_then _ _ _ before.kept c.write_full.ensures.kept;
     }
@@ -45,7 +45,7 @@ returns-clause-made g c clean =
     let early = clean_before _ _ _ c.write_left.ensures.kept clean in
     on_ok c.write_left.result _ _
     (λ writes. writes rows c.args.save.now.conn.now
-    (subst (λ (l : List Row). Pending (state g.S.Store) c.args.stripe l c.loop-place.batch.bytes.items c.args.save.now.conn.now c.loop-place.save.conn.now)
+    (subst (λ (l : List Row). Pending (state g.S.Store) c.args.stripe l c.loop-place.self.batch.bytes.items c.args.save.now.conn.now c.loop-place.save.conn.now)
     (all_taken rows c.loop-place.place (omega arith)) (before.pending early)))
     (c.write_left.ensures.wrote clean)
 
