@@ -93,6 +93,16 @@ def lists_agree(program: Path) -> None:
         same("how many are left", len(listed(asking)), 101)
 
 
+def row_after(client: Client, number: int, command: str) -> dict[str, str]:
+    """The row of a client after this command of it: its worker tells what it did at the end of a turn, when the reply may have come already."""
+    until = time.monotonic() + 1
+    row = listed(client)[number]
+    while row["cmd"] != command and time.monotonic() < until:
+        time.sleep(0.01)
+        row = listed(client)[number]
+    return row
+
+
 def names_are_shown(program: Path) -> None:
     """Names, libraries, the last command and times."""
     with started(program, "--workers", "2") as server, Client(server.address) as one, Client(server.address) as other:
@@ -101,7 +111,7 @@ def names_are_shown(program: Path) -> None:
         same("SETINFO", one.ask("CLIENT", "SETINFO", "LIB-NAME", "tests"), resp.OK)
         same("SETINFO", one.ask("CLIENT", "SETINFO", "lib-ver", "1.2"), resp.OK)
         one.ask("PEXPIRETIME", "none")
-        row = listed(other)[number]
+        row = row_after(other, number, "pexpiretime")
         same("the row", (row["name"], row["lib-name"], row["lib-ver"], row["cmd"], row["age"], row["idle"]), ("first", "tests", "1.2", "pexpiretime", "0", "0"))
         same("its own row", resp.text_of(one.ask("CLIENT", "INFO")).decode().split(" ")[0], f"id={number}")
         same("its own command", "cmd=client|info " in resp.text_of(one.ask("CLIENT", "INFO")).decode(), True)
