@@ -110,10 +110,10 @@ def each_changing(process: int, fill_from: Callable[[int, int], None], entries: 
 
 def start_mapd(program: Path, *options: str) -> tuple[subprocess.Popen[str], int]:
     server = subprocess.Popen([program, "--listen", "127.0.0.1:0", *options], stdout=subprocess.PIPE, stderr=subprocess.PIPE, text=True)
-    port = 0
-    while not port:
-        line = server.stderr.readline()
-        port = int(line.rsplit(":", 1)[1]) if line.startswith("listening on ") else 0
+    line = next((line for line in server.stderr if line.startswith("listening on ")), None)
+    if line is None:
+        sys.exit("the server ended")
+    port = int(line.rsplit(":", 1)[1])
     threading.Thread(target=server.stderr.read, daemon=True).start()
     server.stdout.readline()
     return server, port

@@ -109,6 +109,8 @@ def main() -> int:
             reached = found.count(turn)
             same(f"the turns of the stripes after turn {turn}", found, [turn] * reached + turns[reached:])
             between += 0 < reached < STRIPES
+            # the machine may be quicker now than it was, or slower
+            took *= 0.5 if reached == STRIPES else 1.5 if reached == 0 else 1
             turns = found
     same(f"that a save was cut off between two of its stripes, {between} times", between > 0, True)
     print(f"keeping_parts: of {given.rounds} saves {between} were cut off between two of their stripes")
