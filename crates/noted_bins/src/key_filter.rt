@@ -48,6 +48,8 @@ impl KeyFilter {
 
     /// Turns a filter on that is off, with so many places. Returns `NoMemory` if a request for memory is refused; then it stays off.
     pub(crate) fn turn_on(&mut self, places: usize) -> Result<(), NoMemory> {
+        // No more room than this: it is much of what notes take.
+        self.places.try_reserve_exact(places)?;
         self.places.resize(places, false)?;
         Ok(())
     }

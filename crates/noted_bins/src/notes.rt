@@ -14,7 +14,7 @@ use std::marker::Model;
 const FEW: u64 = 128;
 
 /// A key in the lists for this many entries.
-const PART: u64 = 128;
+const PART: u64 = 1024;
 
 /// If the filter is on, the lists have room for so many times as many keys. If they are full then, all keys are noted.
 const MORE: u64 = 2;
