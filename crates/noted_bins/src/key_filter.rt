@@ -1,6 +1,5 @@
 //! A filter of keys: it may take a key for one that was added, but never the other way round.
 ghost use Rattle.std.specs.Prelude.{◌≡◌, ◌<◌, ℕ, List, [], length, true, false, IsTrue};
-ghost use Rattle.bins.specs.Hashes.{hash as hash_is};
 ghost use Rattle.noted_bins.specs.Filters.{may_have, place_in};
 
 use bins::HashedKey;
