@@ -13,8 +13,9 @@ use Rattle.bin_stripes.specs.Actions.{Action, called, scanned, replaced, saved}
 use Rattle.bin_stripes.specs.Histories.{Sound}
 use Rattle.bin_stripes.specs.Passes.{PassState, stripes_of}
 use Rattle.bin_stripes.specs.Saves.{kept_after, kept_from, kept_in}
-use Rattle.map_keeper.specs.Kept.{HasStripe, IsInStep, OnlySaves, HasContent}
+use Rattle.map_keeper.specs.Kept.{IsInStep, OnlySaves, HasContent}
 use Rattle.map_keeper.specs.Saves.{IsSave, IsWhole}
+use Rattle.map_keeper.specs.Stripes.{HasStripe}
 
 -- ---- only this pass saves
 

@@ -29,8 +29,13 @@ use Rattle.stripe_rule.specs.declared.view.View.{View}
 use Rattle.stripe_rule.specs.Gains.{mine_of}
 use Rattle.bin_stripes.specs.declared.ghost_action.GhostAction.{GhostAction}
 use Rattle.bin_stripes.specs.Actions.{Action}
+use Rattle.bin_stripes.specs.Histories.{Sound}
+use Rattle.bin_stripes.specs.Passes.{PassState, stripes_of}
 use Rattle.bin_stripes.specs.Saves.{kept_after, kept_from, kept_in}
-use Rattle.map_keeper.specs.Kept.{HasStripe, IsInStep, IsSavedPartly, with_trees}
+use Rattle.map_keeper.proofs.HistoryLemmas.{has_content}
+use Rattle.map_keeper.specs.Kept.{IsInStep, IsSavedPartly, with_trees}
+use Rattle.map_keeper.specs.Saves.{IsWholeIn}
+use Rattle.map_keeper.specs.Stripes.{HasStripe}
 use Rattle.map_keeper.proofs.SaveLemmas.{lower_or_not, same_or_not as same_stripe, below as stripe_below}
 use Rattle.map_keeper.specs.Written.{Round, BeginsAnew, IsFit, MakesAll, SavesFrom, SavesMap, SavesParts, SavesStripe, WouldSave, WritesPart, IsOther, rows_of, statement_of, statements_of, statements_in, action_of, actions_in, begun}
 
@@ -368,25 +373,40 @@ in_step g anew v w stripes old new high saves step =
     let change = parts_changes g anew v w stripes (suc saves.0) stripes old new high (omega arith) step.tables step.stripes saves.1 in
     record { tables = change.tables; stripes = λ k low. inr (change.mine k (omega arith) low) }
 
--- the stripes are in the trees
-stripe_in_trees : (k : ℕ) (file other : State) (table : Table) → other.now.trees ≡ file.now.trees → HasStripe file k table → HasStripe other k table
-stripe_in_trees k file other table same had = record {
-  changes = had.changes;
-  are = subst (λ (l : List Row). ChangesOf (kept_number k) l had.changes) (ap (λ (trees : Trees). map batch_in (trees batches_tree)) (sym same)) had.are;
-  come_to = had.come_to;
-}
+-- the stripes of all parts are whole
+parts_whole : {S : Type 0} (g : store.Ghosts S) (anew : Bool) (v w : View GhostAction) (stripes parts end : ℕ) (old new : Held S) → SavesParts (state g) anew v w stripes parts end old new
+    → (k : ℕ) → k < end → IsWholeIn stripes w k
+unfolding SavesParts
+parts_whole g anew v w stripes zero end old new saves k low = absurd (omega (arith, low, saves.0))
+parts_whole g anew v w stripes (suc parts) end old new saves k low = elim (lower_or_not k saves.1) [
+  | inl less ↦ parts_whole g anew v w stripes parts saves.1 old saves.0 saves.2 k less
+  | inr up ↦ saves.3.wrote.whole k up low
+]
 
--- what a save would leave that is cut off has each stripe as it was, or as it was handed out
-pub would_leave_stripes : {S : Type 0} (g : store.Ghosts S) (anew : Bool) (v w : View GhostAction) (stripes : ℕ) (old : Held S) (trees : Trees) → stripes < 2 ^ 63
-    → IsInStep anew v stripes (state g old) → WouldSave (state g) anew v w stripes old trees → IsSavedPartly w stripes (state g old) (with_trees (state g old) trees)
-would_leave_stripes g anew v w stripes old trees high step would =
+-- what a save would leave that is cut off has each stripe as it was, or as it was handed out, which is its content if no other pass saves
+pub would_leave_stripes : {S : Type 0} (g : store.Ghosts S) (anew : Bool) (v : View GhostAction) (pass : PassState) (old : Held S) (trees : Trees) → stripes_of pass.map < 2 ^ 63
+    → Sound (stripes_of pass.map) pass.view → IsInStep anew v (stripes_of pass.map) (state g old) → WouldSave (state g) anew v pass.view (stripes_of pass.map) old trees
+    → IsSavedPartly pass (stripes_of pass.map) (state g old) (with_trees (state g old) trees)
+would_leave_stripes g anew v pass old trees high sound step would =
+    let w = pass.view in
+    let stripes = stripes_of pass.map in
     let next = would.next in
     let last = state g next.last in
     let left = with_trees (state g old) trees in
     let before = parts_changes g anew v w stripes would.earlier would.start old would.mid high (omega (arith, would.within, next.wrote.saved.are)) step.tables step.stripes would.saved in
     let change = next_changes g anew v w stripes would.start would.end (state g old) would.mid next.last high would.within step.stripes before next.wrote in
+    let same : left.now ≡ last.now = λ i. record { schema = (step.tables.tables ∙ sym change.tables.tables) i; trees = next.are i } in
+    let stay = same_now last left same change.tables in
+    let saved : (k : ℕ) → k < would.end → HasStripe left k (kept_in (mine_of w k)) =
+    λ k low. stripe_stays k last left (kept_in (mine_of w k)) stay (change.mine k (omega arith) low) in
+    let whole : (k : ℕ) → k < would.end → IsWholeIn stripes w k = λ k low. elim (lower_or_not k would.start) [
+      | inl less ↦ parts_whole g anew v w stripes would.earlier would.start old would.mid would.saved k less
+      | inr up ↦ next.wrote.whole k up low
+    ] in
     record {
+      tables = stay.tables;
       reached = would.end;
-      saved = λ k low. stripe_in_trees k last left (kept_in (mine_of w k)) next.are (change.mine k (omega arith) low);
-      others = λ k table up low had. stripe_in_trees k last left table next.are (change.upper k table up low had);
+      saved = saved;
+      content = λ k q low one only. has_content pass left q k sound one only (whole k low) (saved k low);
+      others = λ k table up low had. stripe_stays k last left table stay (change.upper k table up low had);
     }

@@ -10,7 +10,7 @@ use Rattle.stripe_rule.specs.declared.view.View.{View}
 use Rattle.stripe_rule.specs.Gains.{Keeps}
 use Rattle.bin_stripes.specs.declared.ghost_action.GhostAction.{GhostAction}
 use Rattle.bin_stripes.specs.Passes.{PassState, ServesSameMap}
-use Rattle.map_keeper.proofs.SaveLemmas.{lower_or_not, whole_kept}
+use Rattle.map_keeper.proofs.SaveLemmas.{lower_or_not, whole_in_kept, whole_kept}
 use Rattle.map_keeper.proofs.WriteLemmas.{between_after, between_kept, clean_before, since_after, since_kept, survives_same}
 use Rattle.map_keeper.specs.Parts.{IsFurther, WouldStop, end_of}
 use Rattle.map_keeper.specs.Saves.{IsWhole}
@@ -64,13 +64,17 @@ module _ {S : Type 0} (shown : Held S → State) where
 
   writes_kept : (anew : Bool) (v u w : View GhostAction) (stripes start end : ℕ) (a b : Held S) → IsKept u w end → WritesPart shown anew v u stripes start end a b
       → WritesPart shown anew v w stripes start end a b
-  writes_kept anew v u w stripes start end a b kept writes =
-      record { mid = writes.mid; saved = between_kept shown anew v u w start end a writes.mid kept writes.saved; rest = writes.rest }
+  writes_kept anew v u w stripes start end a b kept writes = record {
+    mid = writes.mid;
+    saved = between_kept shown anew v u w start end a writes.mid kept writes.saved;
+    whole = λ k up low. whole_in_kept stripes u w k (kept k low) (writes.whole k up low);
+    rest = writes.rest;
+  }
 
   writes_after : (anew : Bool) (v u w : View GhostAction) (stripes start end : ℕ) (a b : Held S) → IsFresh v u start → WritesPart shown anew u w stripes start end a b
       → WritesPart shown anew v w stripes start end a b
   writes_after anew v u w stripes start end a b fresh writes =
-      record { mid = writes.mid; saved = between_after shown anew v u w start end a writes.mid fresh writes.saved; rest = writes.rest }
+      record { mid = writes.mid; saved = between_after shown anew v u w start end a writes.mid fresh writes.saved; whole = writes.whole; rest = writes.rest }
 
   commit_kept : (anew : Bool) (v u w : View GhostAction) (stripes start end : ℕ) (a : Held S) (trees : Trees) → IsKept u w end → WouldCommit shown anew v u stripes start end a trees
       → WouldCommit shown anew v w stripes start end a trees

@@ -5,6 +5,7 @@ use Rattle.std.proofs.lemmas.List.Elements.{All-nil, All-cons, All-append, filte
 use Rattle.std.proofs.lemmas.Bool.{cases_Bool}
 use Rattle.std.proofs.lemmas.Bool.Decides.{nat_tests}
 use Rattle.atomic_methods.specs.Hashes.{stripe_of}
+use Rattle.bins.specs.Table.{Table}
 use Rattle.bin_stripes.specs.Invoked.{CountsStripe}
 use Rattle.bin_stripes.specs.Passes.{PassState, stripes_of}
 use Rattle.timed_bins.specs.declared.timing.DeadlineChange.{DeadlineChange}
@@ -27,8 +28,8 @@ use Rattle.kept_file.proofs.ChangeLemmas.{changes_bytes-more, spells_all}
 use Rattle.kept_file.proofs.LogLemmas.{joins_once, of_another, of_itself}
 use Rattle.kept_file.proofs.OtherLemmas.{are_batches}
 use Rattle.kept_file.proofs.ReadLemmas.{batches_before, clean_before, programs_before, rises_more, rises_none, scripts_before}
-use Rattle.map_keeper.specs.Kept.{ReplaysStripes, of_stripe, table_of}
-use Rattle.map_keeper.specs.Restores.{AreInPlace, AreRestored, AreSpelled, CallsOnce, CountsBelow, IsLeft, CountsScripts, IsRestored, Replays, ReplaysAll, ReplaysBatch, ReplaysFile, RestoresEntries, RestoresPrograms, StripeChange, call_of, changes_in, left_at, timing_of, with_stripe}
+use Rattle.map_keeper.specs.Stripes.{HasStripe, StripeChange, changes_in, of_stripe, table_of, with_stripe}
+use Rattle.map_keeper.specs.Restores.{AreInPlace, AreRestored, AreSpelled, CallsOnce, CountsBelow, IsLeft, CountsScripts, IsRestored, Replays, ReplaysAll, ReplaysBatch, ReplaysFile, RestoresEntries, RestoresPrograms, call_of, left_at, timing_of}
 
 -- ---- changes
 
@@ -166,21 +167,19 @@ of_spelled k (batch ∷ batches) all spelled = elim (cases_Bool (spelled.0 == ke
 -- ---- the map after that
 
 -- what was made of each stripe is what the file has of it
-pub replays_stripes : (file : State) (wide : Bool) (now : ℕ) (old new : PassState) (count : ℕ) → HasTables file → RestoresEntries file wide now old new count → ReplaysStripes file now old new
-replays_stripes file wide now old new count tables restores =
-    let all = restores.replayed in
+stripes_replayed : (file : State) (wide : Bool) (now : ℕ) (old new : PassState) (all : ReplaysFile file wide now old new) → HasTables file
+    → (k : ℕ) (table : Table) → HasStripe file k table → table ≡ table_of (of_stripe k all.changes)
+stripes_replayed file wide now old new all tables k table stripe =
     let are : all.batches ≡ batches_of file = are_batches file all.batches all.last tables all.are all.rise in
-    record {
-      changes = all.changes;
-      mid = restores.mid;
-      count = count;
-      replayed = all.replayed;
-      counted = restores.counted;
-      of_stripes = λ k table stripe.
-          let made : ChangesOf (kept_number k) (batches_of file) (of_stripe k all.changes) =
-          subst (λ (l : List Row). ChangesOf (kept_number k) l (of_stripe k all.changes)) are (of_spelled k all.batches all.changes all.spelled) in
-          stripe.come_to ∙ ap table_of (joins_once (filter (is_of (kept_number k)) (batches_of file)) stripe.changes (of_stripe k all.changes) stripe.are made);
-    }
+    let made : ChangesOf (kept_number k) (batches_of file) (of_stripe k all.changes) =
+    subst (λ (l : List Row). ChangesOf (kept_number k) l (of_stripe k all.changes)) are (of_spelled k all.batches all.changes all.spelled) in
+    stripe.come_to ∙ ap table_of (joins_once (filter (is_of (kept_number k)) (batches_of file)) stripe.changes (of_stripe k all.changes) stripe.are made)
+
+-- then the map was counted
+pub restores_all : (file : State) (wide : Bool) (now : ℕ) (old mid new : PassState) (count : ℕ) → ReplaysFile file wide now old mid → CountsBelow (stripes_of old.map) mid new count
+    → RestoresEntries file wide now old new count
+restores_all file wide now old mid new count all counted =
+    record { mid = mid; replayed = all; counted = counted; stripes = stripes_replayed file wide now old mid all }
 
 -- no stripe is counted yet
 pub counts_none : (pass : PassState) → CountsBelow 0 pass pass 0
@@ -222,22 +221,22 @@ module _ (start file : State) (same : IsUnchanged start file) where
   pub scripts_counted : (count : ℕ) → CountsScripts file count → CountsScripts start count
   scripts_counted count all = record { texts = all.texts; are = scripts_before start file same all.texts all.are; counted = all.counted }
 
+  file_replayed : (is_as_wide : Bool) (now : ℕ) (old new : PassState) → ReplaysFile file is_as_wide now old new → ReplaysFile start is_as_wide now old new
+  file_replayed is_as_wide now old new all = record {
+    batches = all.batches;
+    last = all.last;
+    are = batches_before start file same all.batches all.are;
+    rise = all.rise;
+    changes = all.changes;
+    spelled = all.spelled;
+    in_place = all.in_place;
+    replayed = all.replayed;
+  }
+
   pub entries_restored : (is_as_wide : Bool) (now : ℕ) (old new : PassState) (count : ℕ) → RestoresEntries file is_as_wide now old new count
       → RestoresEntries start is_as_wide now old new count
-  entries_restored is_as_wide now old new count all = record {
-    mid = all.mid;
-    replayed = record {
-      batches = all.replayed.batches;
-      last = all.replayed.last;
-      are = batches_before start file same all.replayed.batches all.replayed.are;
-      rise = all.replayed.rise;
-      changes = all.replayed.changes;
-      spelled = all.replayed.spelled;
-      in_place = all.replayed.in_place;
-      replayed = all.replayed.replayed;
-    };
-    counted = all.counted;
-  }
+  entries_restored is_as_wide now old new count all =
+      restores_all start is_as_wide now old all.mid new count (file_replayed is_as_wide now old all.mid all.replayed) all.counted
 
 module _ {S : Type 0} (g : Ghosts S) where
   -- a reading that went from the first to the last of these has handed out batches, up to the number `at`, and the pass made their changes

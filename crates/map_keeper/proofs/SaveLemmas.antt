@@ -15,7 +15,7 @@ use Rattle.bin_stripes.specs.Histories.{Leaves, own_events}
 use Rattle.bin_stripes.specs.Passes.{PassState, ServesSameMap, stripes_of}
 use Rattle.bin_stripes.specs.Invoked.{Makes}
 use Rattle.bin_stripes.specs.Saves.{SavesStripe, kept_in}
-use Rattle.map_keeper.specs.Saves.{IsSave, IsWhole, MadeOnlySaves}
+use Rattle.map_keeper.specs.Saves.{IsSave, IsWhole, IsWholeIn, MadeOnlySaves}
 
 pub same_or_not : (j k : ℕ) → (j ≡ k) ⊎ (j ≢ k)
 same_or_not zero zero = inl refl
@@ -73,10 +73,12 @@ pub keeps_then : (v u w : View GhostAction) (k : ℕ) → Keeps v u k → Keeps 
 keeps_then v u w k p q = record { seen = q.seen ∙ p.seen; mine = q.mine ∙ p.mine }
 
 -- a stripe that the pass knows nothing new of stays whole
+pub whole_in_kept : (stripes : ℕ) (v w : View GhostAction) (k : ℕ) → Keeps v w k → IsWholeIn stripes v k → IsWholeIn stripes w k
+whole_in_kept stripes v w k keeps whole = subst (λ (seen : List (Event GhostAction)). Leaves stripes k seen (kept_in seen)) (sym keeps.seen) whole
+
 pub whole_kept : (old new : PassState) (k : ℕ) → ServesSameMap old new → Keeps old.view new.view k → IsWhole old k → IsWhole new k
 whole_kept old new k same keeps whole =
-    subst (λ (seen : List (Event GhostAction)). Leaves (stripes_of new.map) k seen (kept_in seen)) (sym keeps.seen)
-    (subst (λ (id : TableId). Leaves (stripes_of id) k (seen_of old.view k) (kept_in (seen_of old.view k))) (sym same.map) whole)
+    whole_in_kept (stripes_of new.map) old.view new.view k keeps (subst (λ (id : TableId). IsWholeIn (stripes_of id) old.view k) (sym same.map) whole)
 
 pub below : (j k : ℕ) → j < suc k → j ≢ k → j < k
 below zero zero low apart = absurd (apart refl)

@@ -1,5 +1,6 @@
 pub mod Keepers
 pub mod Saves
+pub mod Stripes
 pub mod Restores
 pub mod Written
 pub mod Kept

@@ -19,10 +19,13 @@ use Rattle.program_registry.specs.declared.registry.ProgramToken.{ProgramToken}
 use Rattle.program_registry.specs.declared.registry.Registry.{Registry}
 use Rattle.admission.specs.Admissions.{IsAdmitted}
 use Rattle.kept_file.specs.Changes.{Change, Entry, Spells, entry_of}
+use Rattle.kept_file.specs.Content.{HasTables}
 use Rattle.kept_file.specs.declared.changes.Kind.{Kind}
 use Rattle.kept_file.specs.Reading.{HasPrograms, HasScripts, RisesTo, ShowsBatches}
 use Rattle.kept_file.specs.Rows.{number}
 use Rattle.kept_file.specs.declared.rows.KeptProgram.{KeptProgram}
+use Rattle.bins.specs.Table.{Table}
+use Rattle.map_keeper.specs.Stripes.{HasStripe, StripeChange, changes_in, of_stripe, table_of, with_stripe}
 
 -- the key has this deadline, or none
 abbrev pub change_to : Option ℕ → DeadlineChange
@@ -63,18 +66,6 @@ unfoldable pub ReplaysAll : ℕ → List Change → PassState → PassState → 
 ReplaysAll now [] old new = new ≡ old
 ReplaysAll now (change ∷ changes) old new = (mid : PassState) × Replays now change old mid × ReplaysAll now changes mid new
 
--- a change of a stripe
-abbrev pub StripeChange : Type 0
-StripeChange = ℕ × Change
-
--- a batch's changes, each with the batch's stripe
-abbrev pub with_stripe : ℕ → List Change → List StripeChange
-with_stripe stripe changes = map (λ (change : Change). (stripe, change)) changes
-
--- without their stripes
-abbrev pub changes_in : List StripeChange → List Change
-changes_in all = map (λ (it : StripeChange). it.1) all
-
 -- these are the changes of all the batches, one after the other
 unfoldable pub AreSpelled : List Row → List StripeChange → Type 0
 AreSpelled [] all = all ≡ []
@@ -108,11 +99,13 @@ unfoldable pub CountsBelow : ℕ → PassState → PassState → ℕ → Type 0
 CountsBelow zero old new count = (new ≡ old) × (count ≡ 0)
 CountsBelow (suc n) old new count = (mid : PassState) × (below : ℕ) × (here : ℕ) × CountsBelow n old mid below × CountsStripe mid n here new × (count ≡ below + here)
 
--- at this time the pass made just the changes that the file has, and then counted the entries of the map
+-- at this time the pass made just the changes that the file has, and then counted the entries of the map. If the file has its tables, the
+-- changes of each stripe come to just what the file has of it
 pub record RestoresEntries (file : State) (is_as_wide : Bool) (now : ℕ) (old new : PassState) (count : ℕ) : Type 0 where
   pub mid : PassState
   pub replayed : ReplaysFile file is_as_wide now old mid
   pub counted : CountsBelow (stripes_of old.map) mid new count
+  pub stripes : HasTables file → (k : ℕ) (table : Table) → HasStripe file k table → table ≡ table_of (of_stripe k replayed.changes)
 
 -- the token is of this registry, and names the program of a file by the number that it had: the program that the file's bytes spell,
 -- verified with the file's sizes

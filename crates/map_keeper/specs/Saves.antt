@@ -9,10 +9,13 @@ use Rattle.bin_stripes.specs.Histories.{Leaves}
 use Rattle.bin_stripes.specs.Passes.{PassState, stripes_of}
 use Rattle.bin_stripes.specs.Saves.{kept_in}
 
--- the rows that were handed out of the stripe k, in their order, come to the table that its events leave, up to the last that the pass
--- has seen
+-- the rows that were handed out of the stripe k, in their order, come to the table that its events leave, up to the last that is seen
+abbrev pub IsWholeIn : ℕ → View GhostAction → ℕ → Type 0
+IsWholeIn stripes view k = Leaves stripes k (seen_of view k) (kept_in (seen_of view k))
+
+-- .. that the pass has seen
 abbrev pub IsWhole : PassState → ℕ → Type 0
-IsWhole pass k = Leaves (stripes_of pass.map) k (seen_of pass.view k) (kept_in (seen_of pass.view k))
+IsWhole pass k = IsWholeIn (stripes_of pass.map) pass.view k
 
 -- the event handed out rows, and changed nothing
 abbrev pub IsSave : Event GhostAction → Type 0

@@ -1,5 +1,5 @@
 -- What a save writes into its file: the statements that the rows ask for which it hands out.
-use Rattle.std.specs.Prelude.{◌≡◌, ◌==◌, ◌||◌, ◌⊎◌, ℕ, zero, suc, ◌+◌, ◌≤◌, Bool, if◌then◌else◌, List, [], ◌∷◌, ◌++◌, map, flat_map, All, IsTrue, true, false, ⊤}
+use Rattle.std.specs.Prelude.{◌≡◌, ◌==◌, ◌||◌, ◌⊎◌, ℕ, zero, suc, ◌+◌, ◌<◌, ◌≤◌, Bool, if◌then◌else◌, List, [], ◌∷◌, ◌++◌, map, flat_map, All, IsTrue, true, false, ⊤}
 use Rattle.sqlite.specs.Held.{Held}
 use Rattle.sqlite.specs.State.{State, Shows}
 use Rattle.sqlite.specs.Tree.{Trees}
@@ -13,6 +13,7 @@ use Rattle.stripe_rule.specs.Gains.{seen_of, mine_of}
 use Rattle.noted_bins.specs.Rows.{Row, values_of}
 use Rattle.bin_stripes.specs.declared.ghost_action.GhostAction.{GhostAction}
 use Rattle.bin_stripes.specs.Actions.{Action, saved}
+use Rattle.map_keeper.specs.Saves.{IsWholeIn}
 
 -- the statement of one batch of rows
 abbrev pub statement_of : ℕ → List Row → Statement
@@ -145,10 +146,12 @@ module _ {S : Type 0} (shown : Held S → State) where
     pub are : All (IsOther stripes) others
     pub made : MakesAll others from to
 
-  -- the stripes from `start` up to `end` of a map of so many were saved, and then such statements were made
+  -- the stripes from `start` up to `end` of a map of so many were saved, and then such statements were made. What was handed out of each of
+  -- these stripes by then is what its events leave
   pub record WritesPart (anew : Bool) (old new : View GhostAction) (stripes start end : ℕ) (from to : Held S) : Type 0 where
     pub mid : Held S
     pub saved : SavesBetween anew old new start end from mid
+    pub whole : (k : ℕ) → start ≤ k → k < end → IsWholeIn stripes new k
     pub rest : WritesOthers stripes mid to
 
   -- one transaction made just that, and was committed

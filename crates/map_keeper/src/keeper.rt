@@ -156,7 +156,7 @@ impl<S: Alter + Drop> Keeper<S> {
         ensures found { stripes_of shared.now.map.now < 2 ^ 63
             → IsInStep self.old.takes_anew self.old.taker.pass.view (stripes_of shared.now.map.now) (state S.Store self.old.file.conn)
             → (trees : Trees) → WouldSave (state S.Store) self.old.takes_anew self.old.taker.pass.view self.new.taker.pass.view (stripes_of shared.now.map.now) self.old.file.conn trees
-            → IsSavedPartly self.new.taker.pass.view (stripes_of shared.now.map.now) (state S.Store self.old.file.conn) (with_trees (state S.Store self.old.file.conn) trees) }
+            → IsSavedPartly self.new.taker.pass (stripes_of shared.now.map.now) (state S.Store self.old.file.conn) (with_trees (state S.Store self.old.file.conn) trees) }
         ensures err { OnErr result (self.new.takes_anew ≡ true) }
     {
         let had = Had {
@@ -166,11 +166,11 @@ impl<S: Alter + Drop> Keeper<S> {
         self.takes_anew = true;
         self.taker.writer.rest = rest;
         let conn = self.file.connection();
-        let in_file = self.taker.save_all(rt, shared, &had, conn)?;
-        self.in_file = in_file;
+        let saved = self.taker.save_all(rt, shared, &had, conn);
+        self.taker.pass.vouch();
+        self.in_file = saved?;
         self.log = self.log.after(self.taker.rows, had.takes_anew);
         self.takes_anew = self.log.is_long();
-        self.taker.pass.vouch();
         Ok(())
     }
 }

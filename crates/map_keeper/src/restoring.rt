@@ -8,9 +8,7 @@ ghost use Rattle.bin_stripes.specs.Passes.{ServesSameMap, stripes_of};
 ghost use Rattle.program_registry.specs.Sent.{IsSentAs};
 ghost use Rattle.program_registry.specs.Tokens.{IsOf, program_of};
 ghost use Rattle.kept_file.specs.Reading.{HandedOut};
-ghost use Rattle.kept_file.specs.Content.{HasTables};
 ghost use Rattle.kept_file.specs.Changes.{change_of, entry_of};
-ghost use Rattle.map_keeper.specs.Kept.{ReplaysStripes};
 ghost use Rattle.map_keeper.specs.Restores.{AreRestored, CallsOnce, CountsBelow, CountsScripts, IsLeft, IsRestored, Replays, ReplaysBatch, ReplaysFile, RestoresEntries, RestoresPrograms, left_at};
 
 use crate::fault::RestoreFault;
@@ -205,7 +203,7 @@ impl Replay<'_> {
     /// Makes the change: the key gets its value and its deadline, or is removed, also if its time is over. `NoMemory` if a request for
     /// memory was refused. Waits until the stripe of the key is free.
     #[tactic(auto, using(crate::proofs::RestoreLemmas::replays_put, crate::proofs::RestoreLemmas::replays_remove))]
-    fn make<R: Wait>(
+    fn apply<R: Wait>(
         &self,
         rt: &R,
         pass: &mut Pass,
@@ -229,7 +227,7 @@ impl Replay<'_> {
 
     /// Makes the changes of a batch, one after the other. If the map has as many stripes as the one that was saved had, each has to be in
     /// its key's stripe. The faults of `KeptChange::read`, and `NoMemory` if a request for memory was refused.
-    fn make_batch<R: Wait>(
+    fn apply_batch<R: Wait>(
         &self,
         rt: &R,
         pass: &mut Pass,
@@ -249,13 +247,13 @@ impl Replay<'_> {
             if self.is_misplaced(batch.stripe, &room.change.key) {
                 return Err(RestoreFault::File(KeepFault::Damaged));
             }
-            self.make(rt, pass, &room.change, &mut room.reply)?;
+            self.apply(rt, pass, &room.change, &mut room.reply)?;
         }
         Err(RestoreFault::NoMemory)
     }
 
-    /// Makes the changes of all batches, in their order. The faults of `make_batch` and of `batches::next`.
-    fn make_all<R: Wait, S: Alter>(
+    /// Makes the changes of all batches, in their order. The faults of `apply_batch` and of `batches::next`.
+    fn apply_all<R: Wait, S: Alter>(
         &self,
         rt: &R,
         alloc: Global,
@@ -278,13 +276,13 @@ impl Replay<'_> {
             if !batches::next(batches, self.had, &mut batch)? {
                 return Ok(());
             }
-            self.make_batch(rt, pass, &batch, &mut room)?;
+            self.apply_batch(rt, pass, &batch, &mut room)?;
         }
         Err(RestoreFault::NoMemory)
     }
 
-    /// Makes the changes of the file that is connected so, as `make_all` does.
-    fn make_from<R: Wait, S: Alter>(
+    /// Makes the changes of the file that is connected so, as `apply_all` does.
+    fn apply_from<R: Wait, S: Alter>(
         &self,
         rt: &R,
         alloc: Global,
@@ -298,7 +296,7 @@ impl Replay<'_> {
         ensures kept { OnOk result (Survives (state S.Store conn.old) (state S.Store conn.new) (λ _. ⊥)) }
     {
         let mut batches = batches::begin(conn)?;
-        self.make_all(rt, alloc, pass, &mut batches)
+        self.apply_all(rt, alloc, pass, &mut batches)
     }
 }
 
@@ -353,6 +351,7 @@ impl<S: Alter> Keeper<S> {
     }
 
     /// Makes the changes that the file has, and returns how many entries the map has after that.
+    #[tactic(auto, using(crate::proofs::RestoreLemmas::restores_all))]
     fn restore_entries<R: Wait>(
         &mut self,
         rt: &R,
@@ -372,7 +371,7 @@ impl<S: Alter> Keeper<S> {
             time: now,
         };
         let conn = self.file.connection();
-        replay.make_from(rt, self.taker.alloc, &mut self.taker.pass, conn)?;
+        replay.apply_from(rt, self.taker.alloc, &mut self.taker.pass, conn)?;
         Ok(count_all(rt, map, &mut self.taker.pass))
     }
 
@@ -392,8 +391,6 @@ impl<S: Alter> Keeper<S> {
         ensures same { ServesSameMap self.old.taker.pass self.new.taker.pass }
         ensures entries { HasCleanDisk (state S.Store self.new.file.conn) → IfOk result (λ restored. RestoresEntries (state S.Store self.old.file.conn)
             (self.old.in_file.stripes == stripes_of shared.now.map.now) now self.old.taker.pass self.new.taker.pass restored.entries) }
-        ensures stripes { HasCleanDisk (state S.Store self.new.file.conn) → HasTables (state S.Store self.old.file.conn)
-            → OnOk result (ReplaysStripes (state S.Store self.old.file.conn) now self.old.taker.pass self.new.taker.pass) }
         ensures programs { HasCleanDisk (state S.Store self.new.file.conn) → IfOk result (λ restored. RestoresPrograms (state S.Store self.old.file.conn) shared.now.registry.now restored.programs.items) }
         ensures scripts { HasCleanDisk (state S.Store self.new.file.conn) → IfOk result (λ restored. CountsScripts (state S.Store self.old.file.conn) restored.scripts) }
         ensures unchanged { HasCleanDisk (state S.Store self.new.file.conn) → OnOk result (IsUnchanged (state S.Store self.old.file.conn) (state S.Store self.new.file.conn)) }

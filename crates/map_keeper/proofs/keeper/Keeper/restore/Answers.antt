@@ -4,7 +4,7 @@ use Rattle.sqlite.specs.State.{HasCleanDisk, IsUnchanged}
 use Rattle.sqlite.proofs.Callers.{unchanged_then}
 use Rattle.bin_stripes.specs.Passes.{PassState, stripes_of}
 use Rattle.map_keeper.specs.Restores.{RestoresEntries}
-use Rattle.map_keeper.proofs.RestoreLemmas.{entries_restored, replays_stripes, scripts_counted}
+use Rattle.map_keeper.proofs.RestoreLemmas.{entries_restored, scripts_counted}
 use Rattle.map_keeper.proofs.WriteLemmas.{clean_before}
 use Rattle.map_keeper.proofs.keeper.Keeper.restore.Goals as goal
 
@@ -37,7 +37,3 @@ returns-clause-entries g c clean =
     entries_restored start two same (c.args.self.now.in_file.stripes == stripes) c.args.now c.args.self.now.taker.pass new count
     (subst (λ (n : ℕ). RestoresEntries two (n == stripes) c.args.now c.args.self.now.taker.pass new count) wide
     (subst (λ (p : PassState). RestoresEntries two (c.restore_scripts.new.self.in_file.stripes == stripes) c.args.now p new count) pass (c.in_ok-entries.ensures.entered clean)))
-
--- what was entered is what the file has
-pub returns-clause-stripes : goal.returns-clause-stripes
-returns-clause-stripes g c clean tables = replays_stripes _ _ _ _ _ _ tables (returns-clause-entries g c clean)

@@ -1,6 +1,8 @@
-use Rattle.std.proofs.Common.{◌≡◌, ℕ, subst, arith}
+use Rattle.std.proofs.Common.{◌≡◌, ◌∙◌, ℕ, subst, arith}
+use Rattle.atomic_table.specs.Seated.{TableId}
 use Rattle.sqlite.specs.Held.{state}
 use Rattle.bin_stripes.specs.Passes.{stripes_of}
+use Rattle.map_keeper.specs.Saves.{IsWholeIn}
 use Rattle.map_keeper.specs.Written.{SavesBetween, WritesOthers}
 use Rattle.map_keeper.proofs.WriteLemmas.{clean_before, kept_then}
 use Rattle.map_keeper.proofs.taker.Taker.write_part.Goals as goal
@@ -22,6 +24,7 @@ pub returns-then-next-stripes-clause-wrote : goal.returns-then-next-stripes-clau
 returns-then-next-stripes-clause-wrote g c clean = record {
   mid = c.save_stripes.new.save.conn.now;
   saved = c.in_ok-next.ensures.wrote (clean_before _ _ _ c.write_width.ensures.kept clean);
+  whole = λ k up low. subst (λ (id : TableId). IsWholeIn (stripes_of id) c.save_stripes.new.self.pass.view k) (c.save_stripes.ensures.same.map ∙ c.requires.map) (c.in_ok-next.ensures.whole k up low);
   rest = subst (λ (n : ℕ). WritesOthers (state g.S.Store) n c.save_stripes.new.save.conn.now c.write_width.new.save.conn.now) c.stripes-stripes.ensures.value
       (c.in_ok-write_width.ensures.wrote clean);
 }
@@ -48,6 +51,8 @@ returns-clause-wrote g c clean =
       mid = c.save_stripes.new.save.conn.now;
       saved = subst (λ (end : ℕ). SavesBetween (state g.S.Store) c.args.had.now.takes_anew v w c.args.from end c.args.save.now.conn.now c.save_stripes.new.save.conn.now) all
           (c.in_ok-next.ensures.wrote (clean_before _ _ _ c.write_others.ensures.kept clean));
+      whole = λ k up low. subst (λ (id : TableId). IsWholeIn (stripes_of id) w k) (c.save_stripes.ensures.same.map ∙ c.requires.map)
+          (c.in_ok-next.ensures.whole k up (omega (arith, low, all)));
       rest = c.in_ok-in_file.ensures.wrote clean;
     }
 

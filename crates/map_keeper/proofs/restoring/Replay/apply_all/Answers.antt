@@ -6,7 +6,7 @@ use Rattle.kept_file.specs.Reading.{HandsOut, row_of}
 use Rattle.map_keeper.proofs.RestoreLemmas.{FileSoFar, file_all, file_more, file_none}
 use Rattle.map_keeper.proofs.SaveLemmas.{same_then}
 use Rattle.map_keeper.proofs.WriteLemmas.{kept_then, survives_same}
-use Rattle.map_keeper.proofs.restoring.Replay.make_all.Goals as goal
+use Rattle.map_keeper.proofs.restoring.Replay.apply_all.Goals as goal
 
 -- no batch yet
 pub loop-init : goal.loop-init
@@ -31,14 +31,14 @@ loop-preserved g c =
     let last = c.next.new.batches.conn.now in
     let batch = c.next.new.batch in
     record {
-      map = c.make_batch.ensures.same.map ∙ before.map;
-      same = same_then c.args.pass.now c.loop.pass c.make_batch.new.pass before.same c.make_batch.ensures.same;
+      map = c.apply_batch.ensures.same.map ∙ before.map;
+      same = same_then c.args.pass.now c.loop.pass c.apply_batch.new.pass before.same c.apply_batch.ensures.same;
       same_reference = c.next.ensures.same_reference ∙ before.same_reference;
       kept = kept_then _ _ _ before.kept c.next.ensures.kept;
       file = file_more g.S.Store wide c.args.self.now.time c.loop.batch.number batch.number batch.stripe batch.bytes.items c.args.batches.now.conn.now mid last
-          c.args.pass.now c.loop.pass c.make_batch.new.pass before.file (c.in_ok-next.ensures.rises c.if-not-branch.false) c.next.ensures.kept
+          c.args.pass.now c.loop.pass c.apply_batch.new.pass before.file (c.in_ok-next.ensures.rises c.if-not-branch.false) c.next.ensures.kept
           (λ clean. subst (λ (b : Bool). HandsOut g.S.Store mid last b (row_of batch)) c.if-not-branch.false (c.in_ok-next.ensures.hands clean))
-          (ap (λ (id : TableId). stripes_of id) before.map) c.in_ok-make_batch.ensures.replays;
+          (ap (λ (id : TableId). stripes_of id) before.map) c.in_ok-apply_batch.ensures.replays;
     }
 
 -- the file has no more

@@ -3,7 +3,7 @@ use Rattle.sqlite.specs.Held.{state}
 use Rattle.sqlite.specs.State.{Survives}
 use Rattle.bin_stripes.specs.Passes.{ServesSameMap, stripes_of}
 use Rattle.map_keeper.proofs.RestoreLemmas.{FileSoFar}
-use Rattle.map_keeper.proofs.restoring.Replay.make_all.Given as goal
+use Rattle.map_keeper.proofs.restoring.Replay.apply_all.Given as goal
 
 -- the changes of the batches so far were made
 abbrev pub invariant-loop : goal.invariant-loop

@@ -6,7 +6,7 @@ use Rattle.kept_file.specs.Changes.{change_of}
 use Rattle.map_keeper.proofs.RestoreLemmas.{BatchSoFar, batch_all, batch_more, batch_none}
 use Rattle.map_keeper.proofs.SaveLemmas.{same_then}
 use Rattle.map_keeper.proofs.WriteLemmas.{none_left}
-use Rattle.map_keeper.proofs.restoring.Replay.make_batch.Goals as goal
+use Rattle.map_keeper.proofs.restoring.Replay.apply_batch.Goals as goal
 
 -- no change yet
 pub loop-init : goal.loop-init
@@ -30,10 +30,10 @@ loop-preserved g c =
     let placed : IsTrue wide → stripe ≡ stripe_of (stripes_of c.args.pass.now.map) change.0 = λ yes.
     subst (λ (id : TableId). stripe ≡ stripe_of (stripes_of id) change.0) (sym c.requires.map) (c.is_misplaced.ensures c.if-is_misplaced.false yes) in
     record {
-      map = c.make.ensures.same.map ∙ before.map;
-      same = same_then c.args.pass.now c.loop.pass c.make.new.pass before.same c.make.ensures.same;
-      batch = batch_more wide c.args.self.now.time stripe c.args.batch.now.bytes.items c.loop.rest.now c.in_ok-rest.rest.now change c.args.pass.now c.loop.pass c.make.new.pass
-          before.batch c.in_ok-rest.ensures.0 c.in_ok-rest.ensures.1 placed c.in_ok-make.ensures.replays;
+      map = c.apply.ensures.same.map ∙ before.map;
+      same = same_then c.args.pass.now c.loop.pass c.apply.new.pass before.same c.apply.ensures.same;
+      batch = batch_more wide c.args.self.now.time stripe c.args.batch.now.bytes.items c.loop.rest.now c.in_ok-rest.rest.now change c.args.pass.now c.loop.pass c.apply.new.pass
+          before.batch c.in_ok-rest.ensures.0 c.in_ok-rest.ensures.1 placed c.in_ok-apply.ensures.replays;
     }
 
 -- no bytes are left

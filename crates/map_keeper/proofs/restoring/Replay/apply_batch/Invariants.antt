@@ -1,7 +1,7 @@
 use Rattle.std.proofs.Common.{◌≡◌, ◌==◌}
 use Rattle.bin_stripes.specs.Passes.{ServesSameMap, stripes_of}
 use Rattle.map_keeper.proofs.RestoreLemmas.{BatchSoFar}
-use Rattle.map_keeper.proofs.restoring.Replay.make_batch.Given as goal
+use Rattle.map_keeper.proofs.restoring.Replay.apply_batch.Given as goal
 
 -- the changes so far were made, and these bytes are left
 abbrev pub invariant-loop : goal.invariant-loop
