@@ -6,7 +6,7 @@ use Rattle.std.proofs.lemmas.List.{append-nil, take-append-drop}
 use Rattle.std.proofs.lemmas.List.Elements.{All-head, All-tail}
 use Rattle.std.proofs.lemmas.Nat.{le_bytes_4, le_bytes_8, from_le_bytes-to_le_bytes_4, from_le_bytes-to_le_bytes_8}
 use Rattle.bpf_model.specs.declared.limits.TheConstants.{VALUE_BYTES}
-use Rattle.kept_file.specs.Changes.{Change, Entry, IsWithin, Spells, kind_byte, entry_bytes, change_bytes, changes_bytes}
+use Rattle.kept_file.specs.Changes.{Change, Entry, IsWithin, Spells, mark_byte, entry_bytes, change_bytes, changes_bytes}
 
 pub spells_all : (changes : List Change) → All IsWithin changes → Spells (changes_bytes changes) changes
 unfolding Spells
@@ -78,31 +78,31 @@ value_once a b r s low also same =
     let long = number_once_32 (length a) (length b) (a ++ r) (b ++ s) (omega arith) (omega arith) same in
     split_once a b r s long.0 long.1
 
-entry_once : (key : List ℕ) (a b : Entry) (r s : List ℕ) → IsWithin (key, a) → IsWithin (key, b) → kind_byte a ≡ kind_byte b → entry_bytes a ++ r ≡ entry_bytes b ++ s
+entry_once : (key : List ℕ) (a b : Entry) (r s : List ℕ) → IsWithin (key, a) → IsWithin (key, b) → mark_byte a ≡ mark_byte b → entry_bytes a ++ r ≡ entry_bytes b ++ s
     → (a ≡ b) × (r ≡ s)
-entry_once key None None r s low also kind same = (refl, same)
-entry_once key (Some (v, None)) (Some (w, None)) r s low also kind same =
+entry_once key None None r s low also mark same = (refl, same)
+entry_once key (Some (v, None)) (Some (w, None)) r s low also mark same =
     let both = value_once v w r s low.value also.value same in
     (λ i. Some (both.0 i, None), both.1)
-entry_once key (Some (v, Some m)) (Some (w, Some n)) r s low also kind same =
+entry_once key (Some (v, Some m)) (Some (w, Some n)) r s low also mark same =
     let time = number_once_64 m n ((to_le_bytes w32 (length v) ++ v) ++ r) ((to_le_bytes w32 (length w) ++ w) ++ s) low.deadline also.deadline same in
     let both = value_once v w r s low.value also.value time.1 in
     (λ i. Some (both.0 i, Some (time.0 i)), both.1)
-entry_once key None (Some (w, None)) r s low also kind same = absurd (omega arith)
-entry_once key None (Some (w, Some n)) r s low also kind same = absurd (omega arith)
-entry_once key (Some (v, None)) None r s low also kind same = absurd (omega arith)
-entry_once key (Some (v, None)) (Some (w, Some n)) r s low also kind same = absurd (omega arith)
-entry_once key (Some (v, Some m)) None r s low also kind same = absurd (omega arith)
-entry_once key (Some (v, Some m)) (Some (w, None)) r s low also kind same = absurd (omega arith)
+entry_once key None (Some (w, None)) r s low also mark same = absurd (omega arith)
+entry_once key None (Some (w, Some n)) r s low also mark same = absurd (omega arith)
+entry_once key (Some (v, None)) None r s low also mark same = absurd (omega arith)
+entry_once key (Some (v, None)) (Some (w, Some n)) r s low also mark same = absurd (omega arith)
+entry_once key (Some (v, Some m)) None r s low also mark same = absurd (omega arith)
+entry_once key (Some (v, Some m)) (Some (w, None)) r s low also mark same = absurd (omega arith)
 
 change_once : (a b : Change) (r s : List ℕ) → IsWithin a → IsWithin b → change_bytes a ++ r ≡ change_bytes b ++ s → (a ≡ b) × (r ≡ s)
 change_once a b r s low also same =
     let long : length a.0 ≡ length b.0 = cc in
-    let kind : kind_byte a.1 ≡ kind_byte b.1 = cc in
+    let mark : mark_byte a.1 ≡ mark_byte b.1 = cc in
     let rest : (a.0 ++ entry_bytes a.1) ++ r ≡ (b.0 ++ entry_bytes b.1) ++ s = cc in
     let key = split_once a.0 b.0 (entry_bytes a.1 ++ r) (entry_bytes b.1 ++ s) long
     (sym (append_assoc a.0 (entry_bytes a.1) r) ∙ rest ∙ append_assoc b.0 (entry_bytes b.1) s) in
-    let entry = entry_once a.0 a.1 b.1 r s low (record { key = low.key; value = also.value; deadline = also.deadline }) kind key.1 in
+    let entry = entry_once a.0 a.1 b.1 r s low (record { key = low.key; value = also.value; deadline = also.deadline }) mark key.1 in
     (λ i. (key.0 i, entry.0 i), entry.1)
 
 pub spells_once : (bytes : List ℕ) (xs ys : List Change) → Spells bytes xs → Spells bytes ys → xs ≡ ys

@@ -2,8 +2,8 @@
 use Rattle.std.specs.Prelude.{◌≡◌, ℕ, ◌≤◌, ◌<◌, ◌^◌, List, [], ◌∷◌, ◌++◌, length, flat_map, Option, Some, None, IfSome}
 use Rattle.std.specs.Int.{w32, w64, to_le_bytes}
 use Rattle.bpf_model.specs.declared.limits.TheConstants.{KEY_BYTES, VALUE_BYTES}
-use Rattle.kept_file.specs.declared.changes.Kind.{Kind}
-use Rattle.kept_file.specs.declared.changes.Kind.TheVariants.{Removed, Lasting, Until}
+use Rattle.kept_file.specs.declared.changes.Mark.{Mark}
+use Rattle.kept_file.specs.declared.changes.Mark.TheVariants.{Gone, Lasting, Until}
 use Rattle.kept_file.specs.declared.changes.KeptChange.{KeptChange}
 
 -- what a key has: a value, with a deadline or none; or nothing
@@ -14,19 +14,19 @@ Entry = Option (List ℕ × Option ℕ)
 abbrev pub Change : Type 0
 Change = List ℕ × Entry
 
-abbrev pub entry_of : Kind → List ℕ → Entry
-entry_of Removed value = None
+abbrev pub entry_of : Mark → List ℕ → Entry
+entry_of Gone value = None
 entry_of Lasting value = Some (value, None)
 entry_of (Until at) value = Some (value, Some at)
 
 abbrev pub change_of : KeptChange → Change
-change_of change = (change.key, entry_of change.kind change.value)
+change_of change = (change.key, entry_of change.mark change.value)
 
 -- the byte that says what the key has
-abbrev pub kind_byte : Entry → ℕ
-kind_byte None = 0
-kind_byte (Some (value, None)) = 1
-kind_byte (Some (value, Some at)) = 2
+abbrev pub mark_byte : Entry → ℕ
+mark_byte None = 0
+mark_byte (Some (value, None)) = 1
+mark_byte (Some (value, Some at)) = 2
 
 -- a deadline, in eight bytes, the lowest first
 abbrev pub deadline_bytes : Option ℕ → List ℕ
@@ -40,7 +40,7 @@ entry_bytes (Some entry) = deadline_bytes entry.1 ++ (to_le_bytes w32 (length en
 
 -- the length of the key, a byte that says what it has, the key, and what it has
 abbrev pub change_bytes : Change → List ℕ
-change_bytes change = length change.0 ∷ kind_byte change.1 ∷ (change.0 ++ entry_bytes change.1)
+change_bytes change = length change.0 ∷ mark_byte change.1 ∷ (change.0 ++ entry_bytes change.1)
 
 -- .. one after the other
 abbrev pub changes_bytes : List Change → List ℕ

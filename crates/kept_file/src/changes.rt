@@ -4,7 +4,7 @@
 //! the key, the deadline in eight bytes, the length of the value in four, and the value. The lowest byte of a number comes first.
 ghost use Rattle.std.specs.Prelude.{◌≡◌, ◌≤◌, [], ◌∷◌, ◌++◌, length, Some, None, IfOk, OnOk};
 ghost use Rattle.std.specs.Int.{w32, w64, to_le_bytes};
-ghost use Rattle.kept_file.specs.Changes.{IsWithin, change_bytes, change_of, entry_bytes, entry_of, kind_byte};
+ghost use Rattle.kept_file.specs.Changes.{IsWithin, change_bytes, change_of, entry_bytes, entry_of, mark_byte};
 
 use crate::fault::KeepFault;
 use bpf_model::limits::{KEY_BYTES, VALUE_BYTES};
@@ -13,9 +13,9 @@ use std::alloc::Global;
 
 /// What a key has since a change.
 #[derive(Clone, Copy, Debug, PartialEq, Eq)]
-pub enum Kind {
+pub enum Mark {
     /// Nothing.
-    Removed,
+    Gone,
     /// A value without a deadline.
     Lasting,
     /// A value with this deadline, in milliseconds since the epoch.
@@ -28,7 +28,7 @@ pub struct KeptChange {
     pub key: Key,
     /// The value, unless the key is removed.
     pub value: Value,
-    pub kind: Kind,
+    pub mark: Mark,
 }
 
 impl KeptChange {
@@ -37,7 +37,7 @@ impl KeptChange {
         KeptChange {
             key: Key::from_slice(b"").unwrap(),
             value: Value::new(),
-            kind: Kind::Removed,
+            mark: Mark::Gone,
         }
     }
 
@@ -47,36 +47,36 @@ impl KeptChange {
         ensures { IfOk result (λ rest. IsWithin (change_of self.new) × (bytes.now ≡ change_bytes (change_of self.new) ++ rest.now)) }
     {
         let (length, rest) = first_byte(bytes)?;
-        let (kind, rest) = first_byte(rest)?;
+        let (mark, rest) = first_byte(rest)?;
         let length = usize::from(length);
         if length > KEY_BYTES {
             return Err(KeepFault::TooLong);
         }
         let (key, rest) = first_bytes(rest, length)?;
         self.key.set_from(key);
-        self.read_entry(kind, rest)
+        self.read_entry(mark, rest)
     }
 
-    /// Reads what the key has, after the key; `kind` is the byte that says what that is. `Damaged` if no kind has this byte or there are
+    /// Reads what the key has, after the key; `mark` is the byte that says what that is. `Damaged` if no mark has this byte or there are
     /// too few bytes; `TooLong` if the value has more than 1,024.
-    fn read_entry<'a>(&mut self, kind: u8, bytes: &'a [u8]) -> Result<&'a [u8], KeepFault>
+    fn read_entry<'a>(&mut self, mark: u8, bytes: &'a [u8]) -> Result<&'a [u8], KeepFault>
         requires { length self.now.key ≤ KEY_BYTES }
         ensures { IfOk result (λ rest. (self.new.key ≡ self.old.key) × IsWithin (change_of self.new)
-            × (kind ≡ kind_byte (entry_of self.new.kind self.new.value))
-            × (bytes.now ≡ entry_bytes (entry_of self.new.kind self.new.value) ++ rest.now)) }
+            × (mark ≡ mark_byte (entry_of self.new.mark self.new.value))
+            × (bytes.now ≡ entry_bytes (entry_of self.new.mark self.new.value) ++ rest.now)) }
     {
-        match kind {
+        match mark {
             0 => {
-                self.kind = Kind::Removed;
+                self.mark = Mark::Gone;
                 Ok(bytes)
             }
             1 => {
-                self.kind = Kind::Lasting;
+                self.mark = Mark::Lasting;
                 read_value(&mut self.value, bytes)
             }
             2 => {
                 let (deadline, rest) = first_u64(bytes)?;
-                self.kind = Kind::Until(deadline);
+                self.mark = Mark::Until(deadline);
                 read_value(&mut self.value, rest)
             }
             _ => Err(KeepFault::Damaged),
@@ -192,13 +192,13 @@ impl Batch {
 
     /// Appends the length of a key, a byte that says what it has, and the key. `TooLong` if it has more than 64 bytes; `NoMemory` if a
     /// request for memory was refused.
-    fn push_key(&mut self, key: &[u8], kind: u8) -> Result<(), KeepFault>
-        ensures { OnOk result ((length key.now ≤ KEY_BYTES) × (self.new.bytes.items ≡ self.old.bytes.items ++ (length key.now ∷ kind ∷ key.now))) }
+    fn push_key(&mut self, key: &[u8], mark: u8) -> Result<(), KeepFault>
+        ensures { OnOk result ((length key.now ≤ KEY_BYTES) × (self.new.bytes.items ≡ self.old.bytes.items ++ (length key.now ∷ mark ∷ key.now))) }
     {
         if key.len() > KEY_BYTES {
             return Err(KeepFault::TooLong);
         }
-        self.push(&[key.len() as u8, kind])?;
+        self.push(&[key.len() as u8, mark])?;
         self.push(key)
     }
 
