@@ -1,12 +1,14 @@
 -- The changes that bytes spell.
-use Rattle.std.proofs.Common.{◌≡◌, ◌∙◌, ◌+◌, ◌<◌, ◌≤◌, ◌^◌, ℕ, zero, suc, List, [], ◌∷◌, ◌++◌, length, length-append, get_or, take, drop, Some, None, refl, sym, ap, subst, append_assoc, arith}
+use Rattle.std.proofs.Common.{◌≡◌, ◌∙◌, ◌+◌, ◌<◌, ◌≤◌, ◌^◌, ℕ, zero, suc, List, [], ◌∷◌, ◌++◌, length, length-append, get_or, take, drop, Some, None, Result, Ok, Err, IfErr, ◌⊎◌, refl, sym, ap, subst, append_assoc, arith}
 use Rattle.std.specs.List.{All}
 use Rattle.std.specs.Int.{w32, w64, to_le_bytes, from_le_bytes}
 use Rattle.std.proofs.lemmas.List.{append-nil, take-append-drop}
 use Rattle.std.proofs.lemmas.List.Elements.{All-head, All-tail}
 use Rattle.std.proofs.lemmas.Nat.{le_bytes_4, le_bytes_8, from_le_bytes-to_le_bytes_4, from_le_bytes-to_le_bytes_8}
 use Rattle.bpf_model.specs.declared.limits.TheConstants.{VALUE_BYTES}
-use Rattle.kept_file.specs.Changes.{Change, Entry, IsWithin, Spells, mark_byte, entry_bytes, change_bytes, changes_bytes}
+use Rattle.kept_file.specs.declared.fault.KeepFault.{KeepFault}
+use Rattle.kept_file.specs.declared.fault.KeepFault.TheVariants.{Damaged, TooLong}
+use Rattle.kept_file.specs.Changes.{BeginsWithNoEntry, BeginsWithNone, Change, Entry, IsWithin, Spells, mark_byte, entry_bytes, change_bytes, changes_bytes}
 
 pub spells_all : (changes : List Change) → All IsWithin changes → Spells (changes_bytes changes) changes
 unfolding Spells
@@ -104,6 +106,23 @@ change_once a b r s low also same =
     (sym (append_assoc a.0 (entry_bytes a.1) r) ∙ rest ∙ append_assoc b.0 (entry_bytes b.1) s) in
     let entry = entry_once a.0 a.1 b.1 r s low (record { key = low.key; value = also.value; deadline = also.deadline }) mark key.1 in
     (λ i. (key.0 i, entry.0 i), entry.1)
+
+-- what comes after the key begins with nothing that may come there
+none_after_key : (bytes key rest : List ℕ) (mark : ℕ) → bytes ≡ length key ∷ mark ∷ (key ++ rest) → BeginsWithNoEntry mark rest → BeginsWithNone bytes
+none_after_key bytes key rest mark is none change more within same =
+    let both : length key ∷ mark ∷ (key ++ rest) ≡ change_bytes change ++ more = sym is ∙ same in
+    let long : length key ≡ length change.0 = cc in
+    let mark_is : mark ≡ mark_byte change.1 = cc in
+    let tail : key ++ rest ≡ (change.0 ++ entry_bytes change.1) ++ more = cc in
+    let split = split_once key change.0 rest (entry_bytes change.1 ++ more) long (tail ∙ append_assoc change.0 (entry_bytes change.1) more) in
+    none change more within mark_is split.1
+
+-- .. so reading it failed
+pub none_of_entry : {A : Type 0} (bytes key rest : List ℕ) (mark : ℕ) (result : Result A KeepFault) → bytes ≡ length key ∷ mark ∷ (key ++ rest)
+    → IfErr result (λ fault. BeginsWithNoEntry mark rest × ((fault ≡ Damaged) ⊎ (fault ≡ TooLong)))
+    → IfErr result (λ fault. BeginsWithNone bytes × ((fault ≡ Damaged) ⊎ (fault ≡ TooLong)))
+none_of_entry bytes key rest mark (Ok _) is none = tt
+none_of_entry bytes key rest mark (Err fault) is none = (none_after_key bytes key rest mark is none.0, none.1)
 
 pub spells_once : (bytes : List ℕ) (xs ys : List Change) → Spells bytes xs → Spells bytes ys → xs ≡ ys
 unfolding Spells

@@ -1,5 +1,5 @@
 -- Changes of entries, and the bytes that spell them in a batch.
-use Rattle.std.specs.Prelude.{◌≡◌, ℕ, ◌≤◌, ◌<◌, ◌^◌, List, [], ◌∷◌, ◌++◌, length, flat_map, Option, Some, None, IfSome}
+use Rattle.std.specs.Prelude.{◌≡◌, ◌≢◌, ℕ, ◌≤◌, ◌<◌, ◌^◌, List, [], ◌∷◌, ◌++◌, length, flat_map, Option, Some, None, IfSome}
 use Rattle.std.specs.Int.{w32, w64, to_le_bytes}
 use Rattle.bpf_model.specs.declared.limits.TheConstants.{KEY_BYTES, VALUE_BYTES}
 use Rattle.kept_file.specs.declared.changes.Mark.{Mark}
@@ -51,6 +51,18 @@ pub record IsWithin (change : Change) : Type 0 where
   pub key : length change.0 ≤ KEY_BYTES
   pub value : IfSome change.1 (λ entry. length entry.0 ≤ VALUE_BYTES)
   pub deadline : IfSome change.1 (λ entry. IfSome entry.1 (λ at. at < 2 ^ 64))
+
+-- the bytes begin with no change within the limits
+abbrev pub BeginsWithNone : List ℕ → Type 0
+BeginsWithNone bytes = (change : Change) (rest : List ℕ) → IsWithin change → bytes ≢ change_bytes change ++ rest
+
+-- .. with nothing that comes after the key of such a change with this mark
+abbrev pub BeginsWithNoEntry : ℕ → List ℕ → Type 0
+BeginsWithNoEntry mark bytes = (change : Change) (rest : List ℕ) → IsWithin change → mark ≡ mark_byte change.1 → bytes ≢ entry_bytes change.1 ++ rest
+
+-- .. with no length of a value within the limit and the value
+abbrev pub BeginsWithNoValue : List ℕ → Type 0
+BeginsWithNoValue bytes = (value rest : List ℕ) → length value ≤ VALUE_BYTES → bytes ≢ (to_le_bytes w32 (length value) ++ value) ++ rest
 
 -- the bytes spell these changes, and no more
 unfoldable pub Spells : List ℕ → List Change → Type 0

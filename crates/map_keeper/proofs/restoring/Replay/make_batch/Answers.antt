@@ -33,7 +33,7 @@ loop-preserved g c =
       map = c.make.ensures.same.map ∙ before.map;
       same = same_then c.args.pass.now c.loop.pass c.make.new.pass before.same c.make.ensures.same;
       batch = batch_more wide c.args.self.now.time stripe c.args.batch.now.bytes.items c.loop.rest.now c.in_ok-rest.rest.now change c.args.pass.now c.loop.pass c.make.new.pass
-          before.batch c.in_ok-rest.ensures.0 c.in_ok-rest.ensures.1 placed c.in_ok-make.ensures.replays;
+          before.batch c.in_ok-rest.ensures.ok.0 c.in_ok-rest.ensures.ok.1 placed c.in_ok-make.ensures.replays;
     }
 
 -- no bytes are left
