@@ -2,7 +2,7 @@
 //!
 //! A change is the length of its key in one byte, a byte that says what the key has (0 nothing, 1 a value, 2 a value with a deadline),
 //! the key, the deadline in eight bytes, the length of the value in four, and the value. The lowest byte of a number comes first.
-ghost use Rattle.std.specs.Prelude.{◌≡◌, ◌<◌, ◌≤◌, [], ◌∷◌, ◌++◌, ◌⊎◌, ◌↔◌, length, Some, None, Err, IfErr, IfOk, OnOk};
+ghost use Rattle.std.specs.Prelude.{◌≡◌, ◌<◌, ◌≤◌, [], ◌∷◌, ◌+◌, ◌++◌, ◌⊎◌, ◌↔◌, length, vec_len, vec_capacity, Some, None, Err, IfErr, IfOk, IsOk, OnErr, OnOk};
 ghost use Rattle.std.specs.Int.{w32, w64, to_le_bytes};
 ghost use Rattle.kept_file.specs.Changes.{BeginsWithNoEntry, BeginsWithNoValue, BeginsWithNone, IsWithin, change_bytes, change_of, entry_bytes, entry_of, mark_byte};
 
@@ -10,6 +10,12 @@ use crate::fault::KeepFault;
 use bpf_model::limits::{KEY_BYTES, VALUE_BYTES};
 use bpf_model::{Key, Value};
 use std::alloc::Global;
+
+/// The length of a key, and the byte that says what it has.
+const HEAD_BYTES: usize = 2;
+
+/// What a change that puts has beside its key and value: the head, the deadline, and the length of the value.
+const PUT_BYTES: usize = HEAD_BYTES + 8 + 4;
 
 /// What a key has since a change.
 #[derive(Clone, Copy, Debug, PartialEq, Eq)]
@@ -144,7 +150,7 @@ fn first_u64(bytes: &[u8]) -> Result<(u64, &[u8]), KeepFault>
     }
 }
 
-/// Changes of one stripe, as the bytes of a batch. After a fault it holds part of a change: then clear it.
+/// Changes of one stripe, as the bytes of a batch.
 #[derive(Drop)]
 pub struct Batch {
     bytes: Vec<u8>,
@@ -175,16 +181,18 @@ impl Batch {
     }
 
     /// Appends a change after which the key has this value, with a deadline or none. `TooLong` if the key has more than 64 bytes or the
-    /// value more than 1,024: then the batch is as it was. `NoMemory` if a request for memory was refused.
+    /// value more than 1,024; `NoMemory` if a request for memory was refused. After a fault the batch is as it was.
     pub fn put(&mut self, key: &[u8], value: &[u8], deadline: Option<u64>) -> Result<(), KeepFault>
         ensures ok { OnOk result (IsWithin (key.now, Some (value.now, deadline))
             × (self.new.bytes.items ≡ self.old.bytes.items ++ change_bytes (key.now, Some (value.now, deadline)))) }
         ensures err { IfErr result (λ fault. (fault ≡ KeepFault.TooLong) ⊎ (fault ≡ KeepFault.NoMemory)) }
         ensures too_long { (result ≡ Err KeepFault.TooLong) ↔ ((KEY_BYTES < length key.now) ⊎ (VALUE_BYTES < length value.now)) }
-        ensures unchanged { result ≡ Err KeepFault.TooLong → self.new.bytes.items ≡ self.old.bytes.items }
+        ensures unchanged { OnErr result (self.new.bytes.items ≡ self.old.bytes.items) }
     {
         let key_length = key_length(key)?;
         let value_length = value_length(value)?;
+        // With this room no push fails.
+        self.reserve(PUT_BYTES + key.len() + value.len())?;
         match deadline {
             None => self.push_key(key_length, 1, key)?,
             Some(deadline) => {
@@ -196,31 +204,47 @@ impl Batch {
         self.push(value)
     }
 
-    /// Appends a change after which the key has nothing. `TooLong` if the key has more than 64 bytes: then the batch is as it was.
-    /// `NoMemory` if a request for memory was refused.
+    /// Appends a change after which the key has nothing. `TooLong` if the key has more than 64 bytes; `NoMemory` if a request for
+    /// memory was refused. After a fault the batch is as it was.
     pub fn remove(&mut self, key: &[u8]) -> Result<(), KeepFault>
         ensures ok { OnOk result (IsWithin (key.now, None) × (self.new.bytes.items ≡ self.old.bytes.items ++ change_bytes (key.now, None))) }
         ensures err { IfErr result (λ fault. (fault ≡ KeepFault.TooLong) ⊎ (fault ≡ KeepFault.NoMemory)) }
         ensures too_long { (result ≡ Err KeepFault.TooLong) ↔ (KEY_BYTES < length key.now) }
-        ensures unchanged { result ≡ Err KeepFault.TooLong → self.new.bytes.items ≡ self.old.bytes.items }
+        ensures unchanged { OnErr result (self.new.bytes.items ≡ self.old.bytes.items) }
     {
         let key_length = key_length(key)?;
+        // With this room the push does not fail.
+        self.reserve(HEAD_BYTES + key.len())?;
         self.push_key(key_length, 0, key)
     }
 
-    /// Appends the length of a key, a byte that says what it has, and the key. `NoMemory` if a request for memory was refused.
+    /// Appends the length of a key, a byte that says what it has, and the key. `NoMemory` if there is no room and a request for
+    /// memory was refused.
     fn push_key(&mut self, key_length: u8, mark: u8, key: &[u8]) -> Result<(), KeepFault>
         ensures ok { OnOk result (self.new.bytes.items ≡ self.old.bytes.items ++ (key_length ∷ mark ∷ key.now)) }
         ensures err { IfErr result (λ fault. fault ≡ KeepFault.NoMemory) }
+        ensures room { vec_len self.old.bytes + (HEAD_BYTES + length key.now) ≤ vec_capacity self.old.bytes → IsOk result }
+        ensures capacity { vec_capacity self.old.bytes ≤ vec_capacity self.new.bytes }
     {
         self.push(&[key_length, mark])?;
         self.push(key)
     }
 
-    /// Appends these bytes. `NoMemory` if a request for memory was refused.
+    /// Gets room for this many bytes more. `NoMemory` if a request for memory was refused.
+    fn reserve(&mut self, count: usize) -> Result<(), KeepFault>
+        ensures ok { OnOk result (vec_len self.new.bytes + count ≤ vec_capacity self.new.bytes) }
+        ensures err { IfErr result (λ fault. fault ≡ KeepFault.NoMemory) }
+        ensures same { self.new.bytes.items ≡ self.old.bytes.items }
+    {
+        self.bytes.reserve(count).map_err(|_| KeepFault::NoMemory)
+    }
+
+    /// Appends these bytes. `NoMemory` if there is no room and a request for memory was refused.
     fn push(&mut self, bytes: &[u8]) -> Result<(), KeepFault>
         ensures ok { OnOk result (self.new.bytes.items ≡ self.old.bytes.items ++ bytes.now) }
         ensures err { IfErr result (λ fault. fault ≡ KeepFault.NoMemory) }
+        ensures room { vec_len self.old.bytes + length bytes.now ≤ vec_capacity self.old.bytes → IsOk result }
+        ensures capacity { vec_capacity self.old.bytes ≤ vec_capacity self.new.bytes }
     {
         self.bytes
             .extend_from_slice(bytes)
