@@ -1,14 +1,14 @@
 -- The changes that bytes spell.
-use Rattle.std.proofs.Common.{◌≡◌, ◌∙◌, ◌+◌, ◌<◌, ◌≤◌, ◌^◌, ℕ, zero, suc, List, [], ◌∷◌, ◌++◌, length, length-append, get_or, take, drop, Some, None, Result, Ok, Err, IfErr, ◌⊎◌, refl, sym, ap, subst, append_assoc, arith}
+use Rattle.std.proofs.Common.{◌≡◌, ◌∙◌, ◌+◌, ◌<◌, ◌≤◌, ◌^◌, ℕ, zero, suc, List, [], ◌∷◌, ◌++◌, length, length-append, get_or, take, drop, Option, Some, None, Result, Ok, Err, IfErr, ◌⊎◌, inl, inr, refl, sym, ap, subst, append_assoc, arith}
 use Rattle.std.specs.List.{All}
 use Rattle.std.specs.Int.{w32, w64, to_le_bytes, from_le_bytes}
 use Rattle.std.proofs.lemmas.List.{append-nil, take-append-drop}
 use Rattle.std.proofs.lemmas.List.Elements.{All-head, All-tail}
 use Rattle.std.proofs.lemmas.Nat.{le_bytes_4, le_bytes_8, from_le_bytes-to_le_bytes_4, from_le_bytes-to_le_bytes_8}
-use Rattle.bpf_model.specs.declared.limits.TheConstants.{VALUE_BYTES}
+use Rattle.bpf_model.specs.declared.limits.TheConstants.{KEY_BYTES, VALUE_BYTES}
 use Rattle.kept_file.specs.declared.fault.KeepFault.{KeepFault}
 use Rattle.kept_file.specs.declared.fault.KeepFault.TheVariants.{Damaged, TooLong}
-use Rattle.kept_file.specs.Changes.{BeginsWithNoEntry, BeginsWithNone, Change, Entry, IsWithin, Spells, mark_byte, entry_bytes, change_bytes, changes_bytes}
+use Rattle.kept_file.specs.Changes.{BeginsWithLongEntry, BeginsWithNoEntry, BeginsWithNone, BeginsWithTooLong, Change, Entry, IsWithin, Spells, mark_byte, deadline_bytes, entry_bytes, change_bytes, changes_bytes}
 
 pub spells_all : (changes : List Change) → All IsWithin changes → Spells (changes_bytes changes) changes
 unfolding Spells
@@ -123,6 +123,29 @@ pub none_of_entry : {A : Type 0} (bytes key rest : List ℕ) (mark : ℕ) (resul
     → IfErr result (λ fault. BeginsWithNone bytes × ((fault ≡ Damaged) ⊎ (fault ≡ TooLong)))
 none_of_entry bytes key rest mark (Ok _) is none = tt
 none_of_entry bytes key rest mark (Err fault) is none = (none_after_key bytes key rest mark is none.0, none.1)
+
+-- what comes after a deadline is the same, however the deadline is read
+pub after_deadline : (rest after : List ℕ) (at : ℕ) (deadline : Option ℕ) → 2 ≡ mark_byte (Some ([], deadline)) → to_le_bytes w64 at ++ rest ≡ deadline_bytes deadline ++ after → rest ≡ after
+after_deadline rest after at None mark same = absurd (omega arith)
+after_deadline rest after at (Some other) mark same = (split_once (to_le_bytes w64 at) (to_le_bytes w64 other) rest after refl same).1
+
+-- a change whose key is no longer than it may be is too long if what comes after the key is
+pub too_long_once : (bytes key rest : List ℕ) (mark : ℕ) → bytes ≡ length key ∷ mark ∷ (key ++ rest) → length key ≤ KEY_BYTES
+    → (BeginsWithLongEntry mark rest → BeginsWithTooLong bytes) × (BeginsWithTooLong bytes → BeginsWithLongEntry mark rest)
+too_long_once bytes key rest mark is low = (
+  λ long. (length key, mark, key ++ rest, is, inr (key, rest, refl, refl, long)),
+  λ long.
+      let same : length key ∷ mark ∷ (key ++ rest) ≡ long.0 ∷ long.1 ∷ long.2 = sym is ∙ long.3 in
+      let count : length key ≡ long.0 = cc in
+      let mark_is : mark ≡ long.1 = cc in
+      let tail : key ++ rest ≡ long.2 = cc in
+      elim long.4 [
+        | inl high ↦ absurd (omega arith)
+        | inr found ↦
+            let split = split_once key found.0 rest found.1 (count ∙ sym found.2) (tail ∙ found.3) in
+            subst (λ (m : ℕ). BeginsWithLongEntry m rest) (sym mark_is) (subst (BeginsWithLongEntry long.1) (sym split.1) found.4)
+      ],
+)
 
 pub spells_once : (bytes : List ℕ) (xs ys : List Change) → Spells bytes xs → Spells bytes ys → xs ≡ ys
 unfolding Spells

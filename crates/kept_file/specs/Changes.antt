@@ -1,5 +1,5 @@
 -- Changes of entries, and the bytes that spell them in a batch.
-use Rattle.std.specs.Prelude.{◌≡◌, ◌≢◌, ℕ, ◌≤◌, ◌<◌, ◌^◌, List, [], ◌∷◌, ◌++◌, length, flat_map, Option, Some, None, IfSome}
+use Rattle.std.specs.Prelude.{◌≡◌, ◌≢◌, ℕ, ◌≤◌, ◌<◌, ◌^◌, List, [], ◌∷◌, ◌++◌, ◌⊎◌, length, flat_map, Option, Some, None, IfSome}
 use Rattle.std.specs.Int.{w32, w64, to_le_bytes}
 use Rattle.bpf_model.specs.declared.limits.TheConstants.{KEY_BYTES, VALUE_BYTES}
 use Rattle.kept_file.specs.declared.changes.Mark.{Mark}
@@ -63,6 +63,19 @@ BeginsWithNoEntry mark bytes = (change : Change) (rest : List ℕ) → IsWithin 
 -- .. with no length of a value within the limit and the value
 abbrev pub BeginsWithNoValue : List ℕ → Type 0
 BeginsWithNoValue bytes = (value rest : List ℕ) → length value ≤ VALUE_BYTES → bytes ≢ (to_le_bytes w32 (length value) ++ value) ++ rest
+
+-- the bytes begin with the length of a value, and it is above the limit
+abbrev pub BeginsWithLongValue : List ℕ → Type 0
+BeginsWithLongValue bytes = (count : ℕ) × (rest : List ℕ) × (bytes ≡ to_le_bytes w32 count ++ rest) × (VALUE_BYTES < count) × (count < 2 ^ 32)
+
+-- .. after a deadline or none, as this mark says
+abbrev pub BeginsWithLongEntry : ℕ → List ℕ → Type 0
+BeginsWithLongEntry mark bytes = (deadline : Option ℕ) × (rest : List ℕ) × (mark ≡ mark_byte (Some ([], deadline))) × (bytes ≡ deadline_bytes deadline ++ rest) × BeginsWithLongValue rest
+
+-- the bytes begin with the length of a key and a mark: that length is above the limit, or the length of the value after the key is
+abbrev pub BeginsWithTooLong : List ℕ → Type 0
+BeginsWithTooLong bytes = (count : ℕ) × (mark : ℕ) × (rest : List ℕ) × (bytes ≡ count ∷ mark ∷ rest)
+    × ((KEY_BYTES < count) ⊎ ((key : List ℕ) × (after : List ℕ) × (length key ≡ count) × (rest ≡ key ++ after) × BeginsWithLongEntry mark after))
 
 -- the bytes spell these changes, and no more
 unfoldable pub Spells : List ℕ → List Change → Type 0

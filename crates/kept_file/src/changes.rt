@@ -4,7 +4,7 @@
 //! the key, the deadline in eight bytes, the length of the value in four, and the value. The lowest byte of a number comes first.
 ghost use Rattle.std.specs.Prelude.{◌≡◌, ◌<◌, ◌≤◌, [], ◌∷◌, ◌+◌, ◌++◌, ◌⊎◌, ◌↔◌, length, vec_len, vec_capacity, Some, None, Err, IfErr, IfOk, IsOk, OnErr, OnOk};
 ghost use Rattle.std.specs.Int.{w32, w64, to_le_bytes};
-ghost use Rattle.kept_file.specs.Changes.{BeginsWithNoEntry, BeginsWithNoValue, BeginsWithNone, IsWithin, change_bytes, change_of, entry_bytes, entry_of, mark_byte};
+ghost use Rattle.kept_file.specs.Changes.{BeginsWithLongEntry, BeginsWithLongValue, BeginsWithNoEntry, BeginsWithNoValue, BeginsWithNone, BeginsWithTooLong, IsWithin, change_bytes, change_of, entry_bytes, entry_of, mark_byte};
 
 use crate::fault::KeepFault;
 use bpf_model::limits::{KEY_BYTES, VALUE_BYTES};
@@ -47,11 +47,12 @@ impl KeptChange {
         }
     }
 
-    /// Reads the change with which these bytes begin, and returns the bytes after it. `Damaged` if they begin with none; `TooLong` if its
-    /// key has more than 64 bytes or its value more than 1,024. After a fault `self` may hold part of a change.
+    /// Reads the change with which these bytes begin, and returns the bytes after it. `TooLong` if they say that its key has more than 64
+    /// bytes or its value more than 1,024; `Damaged` if they begin with none. After a fault `self` may hold part of a change.
     pub fn read<'a>(&mut self, bytes: &'a [u8]) -> Result<&'a [u8], KeepFault>
         ensures ok { IfOk result (λ rest. IsWithin (change_of self.new) × (bytes.now ≡ change_bytes (change_of self.new) ++ rest.now)) }
         ensures err { IfErr result (λ fault. BeginsWithNone bytes.now × ((fault ≡ KeepFault.Damaged) ⊎ (fault ≡ KeepFault.TooLong))) }
+        ensures too_long { (result ≡ Err KeepFault.TooLong) ↔ BeginsWithTooLong bytes.now }
     {
         let (length, rest) = first_byte(bytes)?;
         let (mark, rest) = first_byte(rest)?;
@@ -72,6 +73,7 @@ impl KeptChange {
             × (mark ≡ mark_byte (entry_of self.new.mark self.new.value))
             × (bytes.now ≡ entry_bytes (entry_of self.new.mark self.new.value) ++ rest.now)) }
         ensures err { IfErr result (λ fault. BeginsWithNoEntry mark bytes.now × ((fault ≡ KeepFault.Damaged) ⊎ (fault ≡ KeepFault.TooLong))) }
+        ensures too_long { (result ≡ Err KeepFault.TooLong) ↔ BeginsWithLongEntry mark bytes.now }
     {
         match mark {
             0 => {
@@ -98,6 +100,7 @@ fn read_value<'a>(value: &mut Value, bytes: &'a [u8]) -> Result<&'a [u8], KeepFa
     ensures ok { IfOk result (λ rest. (length value.new ≤ VALUE_BYTES)
         × (bytes.now ≡ (to_le_bytes w32 (length value.new) ++ value.new) ++ rest.now)) }
     ensures err { IfErr result (λ fault. BeginsWithNoValue bytes.now × ((fault ≡ KeepFault.Damaged) ⊎ (fault ≡ KeepFault.TooLong))) }
+    ensures too_long { (result ≡ Err KeepFault.TooLong) ↔ BeginsWithLongValue bytes.now }
 {
     let (length, rest) = first_u32(bytes)?;
     let length = length as usize;
