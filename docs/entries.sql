@@ -9,10 +9,10 @@
 -- A change has one part after the other:
 --
 --     the length of the key, in a byte
---     its kind, in a byte: 0 if the key has nothing from then on, 1 if it has a value, 2 if it has a value with a deadline
+--     its mark, in a byte: 0 if the key has nothing from then on, 1 if it has a value, 2 if it has a value with a deadline
 --     the key
---     the deadline in eight bytes, if the kind is 2
---     the length of the value in four bytes, and the value, if the kind is 1 or 2
+--     the deadline in eight bytes, if the mark is 2
+--     the length of the value in four bytes, and the value, if the mark is 1 or 2
 --
 -- The lowest byte of a number comes first. A value has 1,024 bytes at most, so two bytes tell its length.
 
@@ -32,26 +32,26 @@ WITH RECURSIVE
         SELECT number, 1, 1 FROM batches
         UNION ALL
         SELECT number, next, (
-            SELECT CASE kind WHEN x'00' THEN key_end
+            SELECT CASE mark WHEN x'00' THEN key_end
                 ELSE value_at + instr(bytes, substr(changes, value_at - 4, 1)) - 1 + 256 * (instr(bytes, substr(changes, value_at - 3, 1)) - 1) END
-            FROM (SELECT kind, key_end, key_end + CASE kind WHEN x'02' THEN 12 ELSE 4 END AS value_at
-                FROM (SELECT substr(changes, next + 1, 1) AS kind, next + 2 + instr(bytes, substr(changes, next, 1)) - 1 AS key_end)))
+            FROM (SELECT mark, key_end, key_end + CASE mark WHEN x'02' THEN 12 ELSE 4 END AS value_at
+                FROM (SELECT substr(changes, next + 1, 1) AS mark, next + 2 + instr(bytes, substr(changes, next, 1)) - 1 AS key_end)))
         FROM places JOIN batches USING (number), all_bytes
         WHERE next <= length(changes)
         ORDER BY number
     ),
     -- What each change has, and where its value begins.
     parts AS (
-        SELECT stripe, number, at, next, kind, substr(head, 3, key_length) AS key, substr(head, 3 + key_length, 8) AS deadline,
-            at + 2 + key_length + CASE kind WHEN x'02' THEN 12 ELSE 4 END AS value_at
-        FROM (SELECT *, substr(head, 2, 1) AS kind, instr(bytes, substr(head, 1, 1)) - 1 AS key_length
+        SELECT stripe, number, at, next, mark, substr(head, 3, key_length) AS key, substr(head, 3 + key_length, 8) AS deadline,
+            at + 2 + key_length + CASE mark WHEN x'02' THEN 12 ELSE 4 END AS value_at
+        FROM (SELECT *, substr(head, 2, 1) AS mark, instr(bytes, substr(head, 1, 1)) - 1 AS key_length
             FROM (SELECT *, substr(changes, at, 74) AS head FROM places JOIN batches USING (number), all_bytes WHERE at < next))
     ),
     -- The newest change of each key has the age 1.
     ages AS (SELECT *, row_number() OVER (PARTITION BY stripe, key ORDER BY number DESC, at DESC) AS age FROM parts)
 SELECT ages.stripe, key, substr(changes, value_at, next - value_at) AS value,
-    CASE kind WHEN x'02' THEN (
+    CASE mark WHEN x'02' THEN (
         SELECT sum((instr(bytes, substr(deadline, n + 1, 1)) - 1) << 8 * n)
         FROM (SELECT 0 AS n UNION ALL VALUES (1), (2), (3), (4), (5), (6), (7))) END AS deadline
 FROM ages JOIN batches USING (number), all_bytes
-WHERE age = 1 AND kind <> x'00';
+WHERE age = 1 AND mark <> x'00';

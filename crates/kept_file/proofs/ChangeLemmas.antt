@@ -1,12 +1,14 @@
 -- The changes that bytes spell.
-use Rattle.std.proofs.Common.{◌≡◌, ◌∙◌, ◌+◌, ◌<◌, ◌≤◌, ◌^◌, ℕ, zero, suc, List, [], ◌∷◌, ◌++◌, length, length-append, get_or, take, drop, Some, None, refl, sym, ap, subst, append_assoc, arith}
+use Rattle.std.proofs.Common.{◌≡◌, ◌∙◌, ◌+◌, ◌<◌, ◌≤◌, ◌^◌, ℕ, zero, suc, List, [], ◌∷◌, ◌++◌, length, length-append, get_or, take, drop, Option, Some, None, Result, Ok, Err, IfErr, ◌⊎◌, inl, inr, refl, sym, ap, subst, append_assoc, arith}
 use Rattle.std.specs.List.{All}
 use Rattle.std.specs.Int.{w32, w64, to_le_bytes, from_le_bytes}
 use Rattle.std.proofs.lemmas.List.{append-nil, take-append-drop}
 use Rattle.std.proofs.lemmas.List.Elements.{All-head, All-tail}
 use Rattle.std.proofs.lemmas.Nat.{le_bytes_4, le_bytes_8, from_le_bytes-to_le_bytes_4, from_le_bytes-to_le_bytes_8}
-use Rattle.bpf_model.specs.declared.limits.TheConstants.{VALUE_BYTES}
-use Rattle.kept_file.specs.Changes.{Change, Entry, IsWithin, Spells, kind_byte, entry_bytes, change_bytes, changes_bytes}
+use Rattle.bpf_model.specs.declared.limits.TheConstants.{KEY_BYTES, VALUE_BYTES}
+use Rattle.kept_file.specs.declared.fault.KeepFault.{KeepFault}
+use Rattle.kept_file.specs.declared.fault.KeepFault.TheVariants.{Damaged, TooLong}
+use Rattle.kept_file.specs.Changes.{BeginsWithLongEntry, BeginsWithNoEntry, BeginsWithNone, BeginsWithTooLong, Change, Entry, IsWithin, Spells, mark_byte, deadline_bytes, entry_bytes, change_bytes, changes_bytes}
 
 pub spells_all : (changes : List Change) → All IsWithin changes → Spells (changes_bytes changes) changes
 unfolding Spells
@@ -78,32 +80,72 @@ value_once a b r s low also same =
     let long = number_once_32 (length a) (length b) (a ++ r) (b ++ s) (omega arith) (omega arith) same in
     split_once a b r s long.0 long.1
 
-entry_once : (key : List ℕ) (a b : Entry) (r s : List ℕ) → IsWithin (key, a) → IsWithin (key, b) → kind_byte a ≡ kind_byte b → entry_bytes a ++ r ≡ entry_bytes b ++ s
+entry_once : (key : List ℕ) (a b : Entry) (r s : List ℕ) → IsWithin (key, a) → IsWithin (key, b) → mark_byte a ≡ mark_byte b → entry_bytes a ++ r ≡ entry_bytes b ++ s
     → (a ≡ b) × (r ≡ s)
-entry_once key None None r s low also kind same = (refl, same)
-entry_once key (Some (v, None)) (Some (w, None)) r s low also kind same =
+entry_once key None None r s low also mark same = (refl, same)
+entry_once key (Some (v, None)) (Some (w, None)) r s low also mark same =
     let both = value_once v w r s low.value also.value same in
     (λ i. Some (both.0 i, None), both.1)
-entry_once key (Some (v, Some m)) (Some (w, Some n)) r s low also kind same =
+entry_once key (Some (v, Some m)) (Some (w, Some n)) r s low also mark same =
     let time = number_once_64 m n ((to_le_bytes w32 (length v) ++ v) ++ r) ((to_le_bytes w32 (length w) ++ w) ++ s) low.deadline also.deadline same in
     let both = value_once v w r s low.value also.value time.1 in
     (λ i. Some (both.0 i, Some (time.0 i)), both.1)
-entry_once key None (Some (w, None)) r s low also kind same = absurd (omega arith)
-entry_once key None (Some (w, Some n)) r s low also kind same = absurd (omega arith)
-entry_once key (Some (v, None)) None r s low also kind same = absurd (omega arith)
-entry_once key (Some (v, None)) (Some (w, Some n)) r s low also kind same = absurd (omega arith)
-entry_once key (Some (v, Some m)) None r s low also kind same = absurd (omega arith)
-entry_once key (Some (v, Some m)) (Some (w, None)) r s low also kind same = absurd (omega arith)
+entry_once key None (Some (w, None)) r s low also mark same = absurd (omega arith)
+entry_once key None (Some (w, Some n)) r s low also mark same = absurd (omega arith)
+entry_once key (Some (v, None)) None r s low also mark same = absurd (omega arith)
+entry_once key (Some (v, None)) (Some (w, Some n)) r s low also mark same = absurd (omega arith)
+entry_once key (Some (v, Some m)) None r s low also mark same = absurd (omega arith)
+entry_once key (Some (v, Some m)) (Some (w, None)) r s low also mark same = absurd (omega arith)
 
 change_once : (a b : Change) (r s : List ℕ) → IsWithin a → IsWithin b → change_bytes a ++ r ≡ change_bytes b ++ s → (a ≡ b) × (r ≡ s)
 change_once a b r s low also same =
     let long : length a.0 ≡ length b.0 = cc in
-    let kind : kind_byte a.1 ≡ kind_byte b.1 = cc in
+    let mark : mark_byte a.1 ≡ mark_byte b.1 = cc in
     let rest : (a.0 ++ entry_bytes a.1) ++ r ≡ (b.0 ++ entry_bytes b.1) ++ s = cc in
     let key = split_once a.0 b.0 (entry_bytes a.1 ++ r) (entry_bytes b.1 ++ s) long
     (sym (append_assoc a.0 (entry_bytes a.1) r) ∙ rest ∙ append_assoc b.0 (entry_bytes b.1) s) in
-    let entry = entry_once a.0 a.1 b.1 r s low (record { key = low.key; value = also.value; deadline = also.deadline }) kind key.1 in
+    let entry = entry_once a.0 a.1 b.1 r s low (record { key = low.key; value = also.value; deadline = also.deadline }) mark key.1 in
     (λ i. (key.0 i, entry.0 i), entry.1)
+
+-- what comes after the key begins with nothing that may come there
+none_after_key : (bytes key rest : List ℕ) (mark : ℕ) → bytes ≡ length key ∷ mark ∷ (key ++ rest) → BeginsWithNoEntry mark rest → BeginsWithNone bytes
+none_after_key bytes key rest mark is none change more within same =
+    let both : length key ∷ mark ∷ (key ++ rest) ≡ change_bytes change ++ more = sym is ∙ same in
+    let long : length key ≡ length change.0 = cc in
+    let mark_is : mark ≡ mark_byte change.1 = cc in
+    let tail : key ++ rest ≡ (change.0 ++ entry_bytes change.1) ++ more = cc in
+    let split = split_once key change.0 rest (entry_bytes change.1 ++ more) long (tail ∙ append_assoc change.0 (entry_bytes change.1) more) in
+    none change more within mark_is split.1
+
+-- .. so reading it failed
+pub none_of_entry : {A : Type 0} (bytes key rest : List ℕ) (mark : ℕ) (result : Result A KeepFault) → bytes ≡ length key ∷ mark ∷ (key ++ rest)
+    → IfErr result (λ fault. BeginsWithNoEntry mark rest × ((fault ≡ Damaged) ⊎ (fault ≡ TooLong)))
+    → IfErr result (λ fault. BeginsWithNone bytes × ((fault ≡ Damaged) ⊎ (fault ≡ TooLong)))
+none_of_entry bytes key rest mark (Ok _) is none = tt
+none_of_entry bytes key rest mark (Err fault) is none = (none_after_key bytes key rest mark is none.0, none.1)
+
+-- what comes after a deadline is the same, however the deadline is read
+pub after_deadline : (rest after : List ℕ) (at : ℕ) (deadline : Option ℕ) → 2 ≡ mark_byte (Some ([], deadline)) → to_le_bytes w64 at ++ rest ≡ deadline_bytes deadline ++ after → rest ≡ after
+after_deadline rest after at None mark same = absurd (omega arith)
+after_deadline rest after at (Some other) mark same = (split_once (to_le_bytes w64 at) (to_le_bytes w64 other) rest after refl same).1
+
+-- a change whose key is no longer than it may be is too long if what comes after the key is
+pub too_long_once : (bytes key rest : List ℕ) (mark : ℕ) → bytes ≡ length key ∷ mark ∷ (key ++ rest) → length key ≤ KEY_BYTES
+    → (BeginsWithLongEntry mark rest → BeginsWithTooLong bytes) × (BeginsWithTooLong bytes → BeginsWithLongEntry mark rest)
+too_long_once bytes key rest mark is low = (
+  λ long. (length key, mark, key ++ rest, is, inr (key, rest, refl, refl, long)),
+  λ long.
+      let same : length key ∷ mark ∷ (key ++ rest) ≡ long.0 ∷ long.1 ∷ long.2 = sym is ∙ long.3 in
+      let count : length key ≡ long.0 = cc in
+      let mark_is : mark ≡ long.1 = cc in
+      let tail : key ++ rest ≡ long.2 = cc in
+      elim long.4 [
+        | inl high ↦ absurd (omega arith)
+        | inr found ↦
+            let split = split_once key found.0 rest found.1 (count ∙ sym found.2) (tail ∙ found.3) in
+            subst (λ (m : ℕ). BeginsWithLongEntry m rest) (sym mark_is) (subst (BeginsWithLongEntry long.1) (sym split.1) found.4)
+      ],
+)
 
 pub spells_once : (bytes : List ℕ) (xs ys : List Change) → Spells bytes xs → Spells bytes ys → xs ≡ ys
 unfolding Spells

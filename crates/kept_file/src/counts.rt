@@ -1,6 +1,6 @@
 //! What a file has, counted.
 use crate::batches::{self, Batches, KeptBatch};
-use crate::changes::{KeptChange, Kind};
+use crate::changes::{KeptChange, Mark};
 use crate::fault::KeepFault;
 use bpf_model::Key;
 use sqlite::Alter;
@@ -57,13 +57,13 @@ fn make(entries: &mut Entries, stripe: u64, change: &KeptChange) -> Result<(), K
         stripe,
         key: change.key.copied(),
     };
-    let has_deadline = match change.kind {
-        Kind::Removed => {
+    let has_deadline = match change.mark {
+        Mark::Gone => {
             let _ = entries.remove(&place);
             return Ok(());
         }
-        Kind::Lasting => false,
-        Kind::Until(_) => true,
+        Mark::Lasting => false,
+        Mark::Until(_) => true,
     };
     let left = Left {
         has_deadline,

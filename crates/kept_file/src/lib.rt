@@ -18,7 +18,7 @@ mod schema;
 mod tables;
 
 pub use batches::{Batches, KeptBatch};
-pub use changes::{Batch, KeptChange, Kind};
+pub use changes::{Batch, KeptChange, Mark};
 pub use counts::EntryCounts;
 pub use fault::KeepFault;
 pub use file::{KeptFile, OnDisk};

@@ -34,13 +34,13 @@ use Rattle.map_keeper.specs.Restores.{AreInPlace, AreRestored, AreSpelled, Calls
 -- ---- changes
 
 -- a Put of what the change has left, or a Remove if that is nothing
-pub replays_put : (now : ℕ) (change : KeptChange) (deadline : DeadlineChange) (old new : PassState) → IsLeft change.kind now change.value deadline
+pub replays_put : (now : ℕ) (change : KeptChange) (deadline : DeadlineChange) (old new : PassState) → IsLeft change.mark now change.value deadline
     → CallsOnce (record { now = now; change = deadline }) (on_key change.key (put change.value)) old new → Replays now (change_of change) old new
 replays_put now change deadline old new is calls =
     subst (λ (e : Entry). CallsOnce (timing_of now e) (call_of change.key e) old new) (sym is.1)
     (subst (λ (d : DeadlineChange). CallsOnce (record { now = now; change = d }) (on_key change.key (put change.value)) old new) is.2 calls)
 
-pub replays_remove : (now : ℕ) (change : KeptChange) (old new : PassState) → left_at now (entry_of change.kind change.value) ≡ None
+pub replays_remove : (now : ℕ) (change : KeptChange) (old new : PassState) → left_at now (entry_of change.mark change.value) ≡ None
     → CallsOnce (record { now = now; change = Clear }) (on_key change.key remove) old new → Replays now (change_of change) old new
 replays_remove now change old new none calls = subst (λ (e : Entry). CallsOnce (timing_of now e) (call_of change.key e) old new) (sym none) calls
 

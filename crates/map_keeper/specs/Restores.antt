@@ -20,7 +20,7 @@ use Rattle.program_registry.specs.declared.registry.Registry.{Registry}
 use Rattle.admission.specs.Admissions.{IsAdmitted}
 use Rattle.kept_file.specs.Changes.{Change, Entry, Spells, entry_of}
 use Rattle.kept_file.specs.Content.{HasTables}
-use Rattle.kept_file.specs.declared.changes.Kind.{Kind}
+use Rattle.kept_file.specs.declared.changes.Mark.{Mark}
 use Rattle.kept_file.specs.Reading.{HasPrograms, HasScripts, RisesTo, ShowsBatches}
 use Rattle.kept_file.specs.Rows.{number}
 use Rattle.kept_file.specs.declared.rows.KeptProgram.{KeptProgram}
@@ -48,8 +48,8 @@ timing_of now None = record { now = now; change = Clear }
 timing_of now (Some entry) = record { now = now; change = change_to entry.1 }
 
 -- the key has this value then, and its deadline is changed so
-abbrev pub IsLeft : Kind → ℕ → List ℕ → DeadlineChange → Type 0
-IsLeft kind now value change = (deadline : Option ℕ) × (left_at now (entry_of kind value) ≡ Some (value, deadline)) × (change ≡ change_to deadline)
+abbrev pub IsLeft : Mark → ℕ → List ℕ → DeadlineChange → Type 0
+IsLeft mark now value change = (deadline : Option ℕ) × (left_at now (entry_of mark value) ≡ Some (value, deadline)) × (change ≡ change_to deadline)
 
 -- the pass made one call at a time
 pub record CallsOnce (timing : Timing) (invocation : Invocation) (old new : PassState) : Type 0 where

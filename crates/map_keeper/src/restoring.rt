@@ -17,7 +17,7 @@ use admission::{AdmissionFault, ProgramLimits, admit};
 use atomic_methods::Call;
 use bin_stripes::{Pass, StripedMap};
 use bpf_model::{Key, NoMemory, Value};
-use kept_file::{Batches, KeepFault, KeptBatch, KeptChange, KeptProgram, Kind, batches};
+use kept_file::{Batches, KeepFault, KeptBatch, KeptChange, KeptProgram, Mark, batches};
 use program_registry::{ProgramToken, Registry, SentProgram};
 use redis_scripts::{ScriptFault, Scripts};
 use sqlite::{Alter, Connection};
@@ -118,15 +118,15 @@ fn register_all<R: Wait>(
 
 /// Returns what becomes of the deadline of a key with this change; `None` if the key has nothing at this time, since it was removed or its
 /// time is over.
-fn deadline_at(kind: Kind, now: u64) -> Option<DeadlineChange>
-    ensures some { IfSome result (λ change. (value : List ℕ) → IsLeft kind now value change) }
-    ensures none { IsNone result → (value : List ℕ) → left_at now (entry_of kind value) ≡ None }
+fn deadline_at(mark: Mark, now: u64) -> Option<DeadlineChange>
+    ensures some { IfSome result (λ change. (value : List ℕ) → IsLeft mark now value change) }
+    ensures none { IsNone result → (value : List ℕ) → left_at now (entry_of mark value) ≡ None }
 {
-    match kind {
-        Kind::Removed => None,
-        Kind::Lasting => Some(DeadlineChange::Clear),
-        Kind::Until(at) if at <= now => None,
-        Kind::Until(at) => Some(DeadlineChange::Set {
+    match mark {
+        Mark::Gone => None,
+        Mark::Lasting => Some(DeadlineChange::Clear),
+        Mark::Until(at) if at <= now => None,
+        Mark::Until(at) => Some(DeadlineChange::Set {
             at,
             rule: SetRule::Always,
         }),
@@ -214,7 +214,7 @@ impl Replay<'_> {
         ensures same { ServesSameMap pass.old pass.new }
         ensures replays { OnOk result (Replays self.now.time (change_of change.now) pass.old pass.new) }
     {
-        let Some(deadline) = deadline_at(change.kind, self.time) else {
+        let Some(deadline) = deadline_at(change.mark, self.time) else {
             let call = Call::Remove { key: &change.key };
             return self.call(rt, pass, &call, DeadlineChange::Clear, reply);
         };

@@ -33,7 +33,7 @@ loop-preserved g c =
       map = c.apply.ensures.same.map ∙ before.map;
       same = same_then c.args.pass.now c.loop.pass c.apply.new.pass before.same c.apply.ensures.same;
       batch = batch_more wide c.args.self.now.time stripe c.args.batch.now.bytes.items c.loop.rest.now c.in_ok-rest.rest.now change c.args.pass.now c.loop.pass c.apply.new.pass
-          before.batch c.in_ok-rest.ensures.0 c.in_ok-rest.ensures.1 placed c.in_ok-apply.ensures.replays;
+          before.batch c.in_ok-rest.ensures.ok.0 c.in_ok-rest.ensures.ok.1 placed c.in_ok-apply.ensures.replays;
     }
 
 -- no bytes are left
