@@ -464,8 +464,8 @@ DAMAGED, TOO_LONG = "damaged", "a key or a value in it is too long"
 def faulty() -> Iterator[tuple[str, list[Batch], str]]:
     """Batches of a map of one stripe that no server writes, each with its name and why the file is refused."""
     lasting, until, removed = map(fmt.spelled, SOUND)
-    for kind in (3, 4, 0x80, 0xff):
-        yield f"a change of kind {kind}", [Batch(1, 0, lasting[:1] + bytes([kind]) + lasting[2:])], DAMAGED
+    for mark in (3, 4, 0x80, 0xff):
+        yield f"a change of mark {mark}", [Batch(1, 0, lasting[:1] + bytes([mark]) + lasting[2:])], DAMAGED
     key, value = b"k" * 65, b"v" * 1025
     for number, change in enumerate([Change(key), Change(key, b""), Change(key, b"", DEADLINE), Change(b"", value), Change(b"", value, DEADLINE)]):
         yield f"the change {number} with one byte more than it may have", [Batch(1, 0, lasting + fmt.spelled(change))], TOO_LONG
