@@ -1,5 +1,5 @@
 -- What saves handed out, and the bins that events leave.
-use Rattle.std.proofs.Common.{◌≡◌, ◌⊎◌, ℕ, Bool, true, false, true≢false, cond, if◌then◌else◌, IsTrue, List, [], ◌∷◌, ◌++◌, Option, Some, None, option_map, All, map, refl, sym, ap, ◌∙◌, subst, inl, inr, ⊎_elim, arith}
+use Rattle.std.proofs.Common.{◌≡◌, ◌⊎◌, ℕ, Bool, true, false, true≢false, cond, if◌then◌else◌, IsTrue, List, [], ◌∷◌, ◌++◌, Option, Some, None, option_map, All, refl, sym, ap, ◌∙◌, subst, inl, inr, ⊎_elim}
 use Rattle.std.proofs.lemmas.List.Elements.{All-head, All-tail, All-map, All-weaker}
 use Rattle.std.specs.Ordering.{eq_by_cmp}
 use Rattle.std.specs.FinMap as finmap
@@ -8,17 +8,17 @@ use Rattle.stripe_rule.specs.declared.view.Event.{Event}
 use Rattle.stripe_rule.specs.declared.view.View.{View}
 use Rattle.stripe_rule.specs.Gains.{seen_of}
 use Rattle.stripe_rule.proofs.HistoryLemmas.{Replays-append}
-use Rattle.bins.specs.Table.{Entry, Table, by_bytes}
+use Rattle.bins.specs.Table.{Table, by_bytes}
 use Rattle.bins.proofs.MapEdits.{total, antisymmetric}
 use Rattle.bins.proofs.DistinctEntries.{alike}
 use Rattle.atomic_methods.specs.Methods.{with_value}
 use Rattle.timed_bins.specs.Deadlines.{TimedTable}
 use Rattle.noted_bins.specs.declared.taken.Taken.{Taken}
 use Rattle.noted_bins.specs.declared.taken.Taken.TheVariants as taken
-use Rattle.noted_bins.specs.Rows.{Row, Saved, row_of, value_in, values_of, put_rows, has_row, same_key}
-use Rattle.noted_bins.specs.Notes.{NotesChanges, CoversValues, TakesChanges, IsKnown, is_all, is_some}
+use Rattle.noted_bins.specs.Rows.{Row, row_of, value_in, values_of, put_rows, has_row, same_key}
+use Rattle.noted_bins.specs.Notes.{NotesChanges, CoversValues, TakesChanges, IsKnown, is_all, is_anew, is_some}
 use Rattle.bin_stripes.specs.declared.ghost_action.GhostAction.{GhostAction}
-use Rattle.bin_stripes.specs.Actions.{Action, saved, Does}
+use Rattle.bin_stripes.specs.Actions.{Action, saved}
 use Rattle.bin_stripes.specs.Histories.{empty, does, own_events, Leaves}
 use Rattle.bin_stripes.specs.Holding.{IsEmptyBins}
 use Rattle.bin_stripes.specs.Saves.{kept_after, kept_from, kept_in, keeps, LeavesBins}
@@ -117,14 +117,15 @@ module _ (bins : TimedTable) where
 
   module _ (noted noted' : List ℕ → Bool) (rows : List Row) (came : Taken) (new : TimedTable) (t : TakesChanges noted bins came rows noted' new) where
     -- what was there of a key that has no row
-    before : (came : Taken) (kept : Table) (key : List ℕ) → CoversValues noted bins.table kept → IsKnown came noted bins key → Agrees (if is_all came then finmap.empty else kept) key
+    before : (came : Taken) (kept : Table) (key : List ℕ) → CoversValues noted bins.table kept → IsKnown came noted bins key → Agrees (if is_anew came then finmap.empty else kept) key
     before taken.All kept key covers known = get-empty by_bytes key ∙ sym known
+    before taken.Begun kept key covers known = get-empty by_bytes key ∙ sym known
     before taken.Some kept key covers known = covers key known
     before taken.Rest kept key covers known = covers key known
 
     -- what the rows come to, but for the keys that the save left noted
-    pub take_covers : (kept : Table) → CoversValues noted bins.table kept → CoversValues noted' bins.table (kept_after kept (saved (is_all came) (values_of rows)))
-    take_covers kept covers key off = rows_set (if is_all came then finmap.empty else kept) rows key t.present
+    pub take_covers : (kept : Table) → CoversValues noted bins.table kept → CoversValues noted' bins.table (kept_after kept (saved came (values_of rows)))
+    take_covers kept covers key off = rows_set (if is_anew came then finmap.empty else kept) rows key t.present
         (⊎_elim (λ (has : has_row rows key ≡ true). inl has) (λ (known : IsKnown came noted bins key). inr (before came kept key covers known)) (t.known key off))
 
   -- a save of all entries hands out just them
@@ -132,6 +133,7 @@ module _ (bins : TimedTable) where
       → IsTrue (is_all came) → put_rows finmap.empty (values_of rows) ≡ bins.table
   all_handed_out noted noted' rows taken.All new t anew = same_map total antisymmetric (put_rows finmap.empty (values_of rows)) bins.table (λ key. rows_set finmap.empty rows key t.present
       (⊎_elim (λ (has : has_row rows key ≡ true). inl has) (λ (known : finmap.get bins.table key ≡ None). inr (get-empty by_bytes key ∙ sym known)) (t.known key (t.none refl key))))
+  all_handed_out noted noted' rows taken.Begun new t anew = absurd (true≢false (sym anew))
   all_handed_out noted noted' rows taken.Some new t anew = absurd (true≢false (sym anew))
   all_handed_out noted noted' rows taken.Rest new t anew = absurd (true≢false (sym anew))
 
@@ -142,7 +144,7 @@ module _ (bins : TimedTable) where
 module _ (n k : ℕ) (v : View GhostAction) (noted noted' : List ℕ → Bool) (before after : TimedTable) (rows : List Row) (came : Taken)
     (l : Leaves n k (seen_of v k) before.table) (covers : CoversValues noted before.table (kept_in (seen_of v k))) (t : TakesChanges noted before came rows noted' after) where
   abbrev action : Action
-  action = saved (is_all came) (values_of rows)
+  action = saved came (values_of rows)
 
   abbrev events : List (Event GhostAction)
   events = seen_of v k ++ own_events v (action ∷ [])

@@ -1,5 +1,5 @@
 -- Saves, from the bins to the seat, and from the seat to the pass.
-use Rattle.std.proofs.Common.{◌≡◌, ℕ, Bool, true, false, true≢false, List, [], ◌∷◌, ◌++◌, Option, Some, None, option_map, All, refl, sym, ap, ◌∙◌, subst}
+use Rattle.std.proofs.Common.{◌≡◌, ℕ, Bool, true, false, true≢false, List, [], ◌∷◌, Option, Some, None, option_map, All, refl, sym, ap, ◌∙◌, subst}
 use Rattle.std.specs.Prelude.{IsSome}
 use Rattle.std.proofs.lemmas.List.Elements.{All-weaker}
 use Rattle.std.specs.FinMap as finmap
@@ -13,18 +13,16 @@ use Rattle.atomic_methods.specs.Hashes.{stripe_of}
 use Rattle.timed_bins.specs.Deadlines.{TimedTable}
 use Rattle.noted_bins.specs.declared.taken.Taken.{Taken}
 use Rattle.noted_bins.specs.Rows.{Row, row_of, values_of}
-use Rattle.noted_bins.specs.Notes.{is_all, is_some}
 use Rattle.bin_stripes.specs.declared.ghost_action.GhostAction.{GhostAction}
 use Rattle.bin_stripes.specs.Actions.{Action, saved}
 use Rattle.bin_stripes.specs.Histories.{empty, does, Leaves}
 use Rattle.bin_stripes.specs.Saves.{keeps, kept_in, LeavesBins, SavesStripe}
 use Rattle.bin_stripes.specs.Releasing.{Lets}
-use Rattle.bin_stripes.specs.Deeds.{SavesBy, LetsAt, SettlesAt, LetsSave}
+use Rattle.bin_stripes.specs.Deeds.{SavesBy, LetsSave}
 use Rattle.bin_stripes.specs.Holding.{Rests}
 use Rattle.bin_stripes.specs.Passes.{PassState, stripes_of}
 use Rattle.bin_stripes.proofs.SaveLemmas.{whole_left}
 use Rattle.bin_stripes.proofs.StripeTables.{IsWithin, leaves_within}
-use Rattle.bin_stripes.proofs.StepLemmas.{lets_as}
 use Rattle.bin_stripes.proofs.PassLemmas.{state}
 use Rattle.bin_stripes.proofs.TimedLemmas.{settles_at, makes_from}
 
@@ -59,9 +57,9 @@ module _ {B : Type 0} (id : TableId) (views : List (View GhostAction)) (me : Me 
   -- a save of the stripe
   pub saves_stripe : (content : B → Table) (noted : B → List ℕ → Bool) (held : Me (Option B) (View GhostAction)) (before after : List Row) (came : Taken)
       → Rests me → Takes (does (stripes_of id)) empty content (keeps content noted) k me held → LetsSave (stripes_of id) k before after came held me' → SavesStripe old k before after came (state id' views')
-  saves_stripe content noted held before after came r t l = let did : TimedTable → TimedTable → List Action → Type 0 = λ _ _ actions. actions ≡ saved (is_all came) (values_of l.rows) ∷ [] in
+  saves_stripe content noted held before after came r t l = let did : TimedTable → TimedTable → List Action → Type 0 = λ _ _ actions. actions ≡ saved came (values_of l.rows) ∷ [] in
       let s = settles_at content noted did (stripes_of id) k me held me' r t record { before = l.bins; after = l.bins; found = l.found; lets = l.lets } in
-      let m = makes_from id views me is k me' id' views' is' old view_is did s (saved (is_all came) (values_of l.rows) ∷ []) k s.did_so refl in
+      let m = makes_from id views me is k me' id' views' is' old view_is did s (saved came (values_of l.rows) ∷ []) k s.did_so refl in
       let same : stripes_of id ≡ stripes_of old.map = ap (λ (p : PassState). stripes_of p.map) view_is in record {
         rows = l.rows;
         added = l.added;

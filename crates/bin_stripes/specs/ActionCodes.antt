@@ -1,6 +1,6 @@
 -- Actions as ghost data, told apart by codes.
-use Rattle.std.specs.Prelude.{◌≡◌, ◌⊎◌, ℕ, Bool, List, Option}
-use Rattle.std.specs.Coded.{Coded, code_by, coded_ℕ, coded_bool, coded_list, coded_option, coded_result, coded×, coded⊎}
+use Rattle.std.specs.Prelude.{◌≡◌, ◌⊎◌, ℕ, List, Option}
+use Rattle.std.specs.Coded.{Coded, code_by, coded_ℕ, coded_list, coded_option, coded_result, coded×, coded⊎}
 use base.Stored.{coded_unit}
 use mathlib.Core.Path.{refl}
 use mathlib.Core.Logic.{inl, inr}
@@ -13,6 +13,8 @@ use Rattle.bins.specs.Replacements.{Outcome}
 use Rattle.atomic_methods.specs.declared.reply.Reply.{Reply}
 use Rattle.atomic_methods.specs.contracts.reply.Reply.{the_row as reply_row}
 use Rattle.atomic_methods.specs.Invocations.{Method, get, put, put_if_absent, remove, remove_if, replace, replace_if, compute, compute_if_absent, compute_if_present, merge, Invocation}
+use Rattle.noted_bins.specs.declared.taken.Taken.{Taken}
+use Rattle.noted_bins.specs.contracts.taken.Taken.{the_row as taken_row}
 use Rattle.bin_stripes.specs.Actions.{Action, called, scanned, replaced, saved}
 
 abbrev pub Value : Type 0
@@ -86,13 +88,13 @@ invocation_code = code_by (Value × Method) (coded× bytes_code method_code) (λ
     (λ x. record { key = x.0; method = x.1 }) (λ _. refl)
 
 abbrev pub Actions : Type 0
-Actions = (Invocation × Reply) ⊎ (List Entry ⊎ (((Value × Program) × Outcome) ⊎ (Bool × List (Value × Option Value))))
+Actions = (Invocation × Reply) ⊎ (List Entry ⊎ (((Value × Program) × Outcome) ⊎ (Taken × List (Value × Option Value))))
 
 abbrev pub to_actions : Action → Actions
 to_actions (called i r) = inl (i, r)
 to_actions (scanned es) = inr (inl es)
 to_actions (replaced k p a o) = inr (inr (inl ((k, (p, a)), o)))
-to_actions (saved all rows) = inr (inr (inr (all, rows)))
+to_actions (saved taken rows) = inr (inr (inr (taken, rows)))
 
 abbrev pub from_actions : Actions → Action
 from_actions (inl x) = called x.0 x.1
@@ -104,7 +106,7 @@ pub again : (a : Action) → from_actions (to_actions a) ≡ a
 again (called i r) = refl
 again (scanned es) = refl
 again (replaced k p a o) = refl
-again (saved all rows) = refl
+again (saved taken rows) = refl
 
 -- an action as ghost data
 abbrev pub action_code : Coded Action
@@ -112,5 +114,5 @@ action_code = code_by Actions
     (coded⊎ (coded× invocation_code reply_row.coded)
     (coded⊎ (coded_list (coded× bytes_code bytes_code))
     (coded⊎ (coded× (coded× bytes_code program_code) (coded_result answer_row.coded part_row.coded))
-    (coded× coded_bool (coded_list (coded× bytes_code (coded_option bytes_code)))))))
+    (coded× taken_row.coded (coded_list (coded× bytes_code (coded_option bytes_code)))))))
     to_actions from_actions again

@@ -13,7 +13,7 @@ use Rattle.timed_bins.specs.declared.timing.Expiry.{Expiry}
 use Rattle.bin_stripes.specs.declared.ghost_action.GhostAction.{GhostAction}
 use Rattle.noted_bins.specs.declared.taken.Taken.{Taken}
 use Rattle.noted_bins.specs.Rows.{Row, row_of, values_of}
-use Rattle.noted_bins.specs.Notes.{TakesChanges, is_all, is_some}
+use Rattle.noted_bins.specs.Notes.{TakesChanges, is_some}
 use Rattle.bin_stripes.specs.Actions.{Action, called, saved}
 use Rattle.bin_stripes.specs.Histories.{Leaves}
 use Rattle.bin_stripes.specs.Releasing.{Lets}
@@ -61,7 +61,7 @@ pub record SettlesAt {B : Type 0} (did : TimedTable → TimedTable → List Acti
 -- the action of a save that added rows to a list, by the bins and the keys noted before and after
 abbrev pub SavesBy : List Row → List Row → Taken → (List ℕ → Bool) → TimedTable → (List ℕ → Bool) → TimedTable → List Action → Type 0
 SavesBy old new taken noted before noted' after actions = (rows : List Row) × ((new ≡ old ++ rows)
-    × (TakesChanges noted before taken rows noted' after × (actions ≡ saved (is_all taken) (values_of rows) ∷ [])))
+    × (TakesChanges noted before taken rows noted' after × (actions ≡ saved taken (values_of rows) ∷ [])))
 
 -- the seat let the stripe k go after one save, which added these rows to a list; if it left no key noted, what was handed out of
 -- the stripe comes to its table
@@ -72,5 +72,5 @@ pub record LetsSave {B : Type 0} (stripes k : ℕ) (old new : List Row) (taken :
   pub bins : TimedTable
   pub found : Leaves stripes k (seen_of me.0 k) bins.table
   pub present : All (λ row. row.1 ≡ row_of bins row.0) rows
-  pub lets : Lets (λ actions. actions ≡ saved (is_all taken) (values_of rows) ∷ []) stripes k me me'
+  pub lets : Lets (λ actions. actions ≡ saved taken (values_of rows) ∷ []) stripes k me me'
   pub whole : is_some taken ≡ false → Leaves stripes k (seen_of me'.0 k) (kept_in (seen_of me'.0 k))

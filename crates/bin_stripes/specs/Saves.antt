@@ -8,19 +8,19 @@ use Rattle.atomic_methods.specs.Hashes.{stripe_of}
 use Rattle.timed_bins.specs.Deadlines.{TimedTable}
 use Rattle.noted_bins.specs.declared.taken.Taken.{Taken}
 use Rattle.noted_bins.specs.Rows.{Row, row_of, values_of, put_rows}
-use Rattle.noted_bins.specs.Notes.{CoversValues, is_all, is_some}
+use Rattle.noted_bins.specs.Notes.{CoversValues, is_anew, is_some}
 use Rattle.bin_stripes.specs.declared.ghost_action.GhostAction.{GhostAction}
 use Rattle.bin_stripes.specs.Actions.{Action, called, scanned, replaced, saved}
 use Rattle.bin_stripes.specs.Histories.{Leaves}
 use Rattle.bin_stripes.specs.Passes.{PassState, stripes_of}
 use Rattle.bin_stripes.specs.Invoked.{Makes}
 
--- what the rows handed out so far come to, after one more action; a save of all entries begins anew
+-- what the rows handed out so far come to, after one more action; a save may begin anew
 abbrev pub kept_after : Table → Action → Table
 kept_after kept (called invocation reply) = kept
 kept_after kept (scanned entries) = kept
 kept_after kept (replaced key program arg outcome) = kept
-kept_after kept (saved all rows) = put_rows (if all then finmap.empty else kept) rows
+kept_after kept (saved taken rows) = put_rows (if is_anew taken then finmap.empty else kept) rows
 
 -- .. after more events
 abbrev pub kept_from : Table → List (Event GhostAction) → Table
@@ -46,7 +46,7 @@ pub record LeavesBins {B : Type 0} (content : B → Table) (noted : B → List �
 pub record SavesStripe (old : PassState) (k : ℕ) (before after : List Row) (taken : Taken) (new : PassState) : Type 0 where
   pub rows : List Row
   pub added : after ≡ before ++ rows
-  pub makes : Makes old k (saved (is_all taken) (values_of rows) ∷ []) new
+  pub makes : Makes old k (saved taken (values_of rows) ∷ []) new
   pub bins : TimedTable
   pub found : Leaves (stripes_of old.map) k (seen_of old.view k ++ makes.here.between) bins.table
   pub present : All (λ row. row.1 ≡ row_of bins row.0) rows

@@ -1,7 +1,7 @@
 //! Saves of a stripe: the rows of keys that changed since the last one.
 ghost use Rattle.std.specs.Prelude.{◌≡◌, ◌<◌, [], true, IsTrue, IfOk, OnErr};
 ghost use Rattle.timed_bins.specs.Deadlines.{timed_table};
-ghost use Rattle.noted_bins.specs.Notes.{is_all};
+ghost use Rattle.noted_bins.specs.Notes.{is_anew};
 ghost use Rattle.bin_stripes.specs.Deeds.{SavesBy, LetsSave};
 ghost use Rattle.bin_stripes.specs.Holding.{IsLaid, SeatHolds};
 ghost use Rattle.bin_stripes.specs.Invoked.{Makes};
@@ -24,14 +24,15 @@ use ticks::micros;
 pub struct TakeHow {
     /// Those of all entries, whatever was handed out before.
     pub anew: bool,
-    /// Else those of at most this many keys.
+    /// Those of at most this many keys, as `NotedBins::take_changes` takes them.
     pub most: usize,
 }
 
 impl StripedMap {
     /// Adds rows of one stripe, which is below `stripes()`, to the changes: of keys that changed since their rows were handed out,
-    /// or of all entries if `how` says so, or if it isn't known which keys changed. All in one step, so that the rows are what the
-    /// stripe had at one time. Unless `Taken::Some` is returned, what was handed out of the stripe so far, put in order, comes to
+    /// or of all entries if `how` says so, or if it isn't known which keys changed. If these are more than `how` lets it take, the others
+    /// are left for the next time. All in one step, so that the rows are what the stripe had at one time. Unless `Taken::Begun` or
+    /// `Taken::Some` is returned, what was handed out of the stripe so far, put in order, comes to
     /// just what it had then. Returns `NoMemory` if a request for memory is refused and no row was added; then nothing was done.
     /// Waits until the stripe is free.
     pub fn take_changes<R: Wait>(
@@ -46,7 +47,7 @@ impl StripedMap {
         requires stripe { stripe < stripes_of self.now }
         ensures same { ServesSameMap pass.old pass.new }
         ensures ok { IfOk result (λ taken. SavesStripe pass.old stripe changes.old changes.new taken pass.new) }
-        ensures anew { IfOk result (λ taken. IsTrue how.anew → is_all taken ≡ true) }
+        ensures anew { IfOk result (λ taken. IsTrue how.anew → is_anew taken ≡ true) }
         ensures err { OnErr result (Makes pass.old stripe [] pass.new × (changes.new ≡ changes.old)) }
     {
         let slot = stripe as usize;
@@ -97,7 +98,7 @@ fn make_save<B: NotedBins + Drop>(
     ensures same { (seat.new.table_id ≡ seat.old.table_id) × (seat.new.id ≡ seat.old.id) }
     ensures ok { IfOk result (λ taken.
         LetsSave table.now.table_id.slots stripe changes.old changes.new taken seat.old.me seat.new.me) }
-    ensures anew { IfOk result (λ taken. IsTrue how.anew → is_all taken ≡ true) }
+    ensures anew { IfOk result (λ taken. IsTrue how.anew → is_anew taken ≡ true) }
     ensures err { OnErr result
         (Lets (λ actions. actions ≡ []) table.now.table_id.slots stripe seat.old.me seat.new.me
         × (changes.new ≡ changes.old)) }

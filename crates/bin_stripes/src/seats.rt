@@ -15,7 +15,6 @@ use bins::Counts;
 use bpf_model::{Key, Value};
 use noted_bins::NotedBins;
 use std::alloc::Global;
-use verifier::Verified;
 
 /// Makes the call on the stripe of its key if that is free. A program runs in the workspace. The bytes of the replied
 /// value are left in `bytes`.

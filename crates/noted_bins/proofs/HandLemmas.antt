@@ -1,15 +1,17 @@
 -- Rows of some noted keys, one after another.
-use Rattle.std.proofs.Common.{◌≡◌, ℕ, Bool, true, false, cond, List, [], ◌∷◌, ◌++◌, append_assoc, Result, Ok, Err, OnOk, refl, sym, ap, ◌∙◌, ◌⊎◌, inl, inr}
-use Rattle.std.specs.Prelude.{OnErr, is_err}
+use Rattle.std.proofs.Common.{◌≡◌, ℕ, Bool, true, false, cond, List, [], ◌∷◌, ◌++◌, append_assoc, Option, Some, None, Result, Ok, Err, OnOk, refl, sym, ap, ◌∙◌, ◌⊎◌, inl, inr}
+use Rattle.std.specs.Prelude.{OnErr, is_err, is_some as is_there}
+use Rattle.std.specs.FinMap as finite
 use Rattle.std.proofs.lemmas.List.Elements.{All-nil, All-cons, All-append}
 use Rattle.bins.proofs.DistinctEntries.{same_itself, differ}
 use Rattle.timed_bins.specs.Deadlines.{TimedTable}
-use Rattle.noted_bins.specs.declared.taken.Taken.TheVariants.{All as AllTaken, Some as SomeTaken, Rest}
+use Rattle.noted_bins.specs.declared.taken.Taken.TheVariants.{All as AllTaken, Begun, Some as SomeTaken, Rest}
 use Rattle.noted_bins.specs.Hands.{HandsOut}
-use Rattle.noted_bins.specs.Notes.{NotedKeys, TakesChanges, has_key, is_filtered, is_noted, is_some}
+use Rattle.noted_bins.specs.Filters.{may_have}
+use Rattle.noted_bins.specs.Notes.{NotedKeys, TakesChanges, has_entry, has_key, is_filtered, is_noted, is_some}
 use Rattle.noted_bins.specs.Rows.{Row, has_row, row_of, same_key}
-use Rattle.noted_bins.specs.Taking.{HandsOutAll, HandsOutFiltered, HandsOutPresent}
-use Rattle.noted_bins.proofs.KeyLemmas.{either_false, not_in, not_noted, same_or_not, unnoted}
+use Rattle.noted_bins.specs.Taking.{HandsOutAll, HandsOutFiltered}
+use Rattle.noted_bins.proofs.KeyLemmas.{either_false, filtered_there, not_in, not_noted, same_or_not, unnoted}
 
 -- nothing was handed out
 pub hands_none : (notes : NotedKeys) (table : TimedTable) → notes.all ≡ false → HandsOut notes table [] notes
@@ -113,36 +115,16 @@ pub if_ok : {T E P : Type 0} (r : Result T E) → false ≡ is_err r → OnOk r 
 if_ok (Ok x) e told = told
 if_ok (Err x) e told = absurd cc
 
--- the rows of the lists were handed out, and those that the filter may have
-pub took_rest : (old between new : NotedKeys) (table : TimedTable) (first changes more : List Row)
-    → ((rows : List Row) × ((changes ≡ first ++ rows) × HandsOut old table rows between)) → between.keys ≡ [] → HandsOutFiltered table between.filter changes more
-    → new.all ≡ false → new.keys ≡ [] → new.filter ≡ []
-    → (rows : List Row) × ((more ≡ first ++ rows) × TakesChanges (is_noted old table.table) table Rest rows (is_noted new table.table) table)
-took_rest old between new table first changes more before empty hands all none off = (
-  rows,
+-- the rows of the lists were handed out, and the filter is off
+pub took_lists : (old new : NotedKeys) (table : TimedTable) (first changes : List Row) → ((rows : List Row) × ((changes ≡ first ++ rows) × HandsOut old table rows new)) → new.keys ≡ []
+    → new.filter ≡ [] → (rows : List Row) × ((changes ≡ first ++ rows) × TakesChanges (is_noted old table.table) table Rest rows (is_noted new table.table) table)
+took_lists old new table first changes before empty off = (
+  before.0,
   (
-    hands.handed.added ∙ ap (λ (rs : List Row). rs ++ hands.handed.rows) before.1.0 ∙ append_assoc first before.0 hands.handed.rows,
-    record {
-      same = refl;
-      present = All-append (λ (row : Row). row.1 ≡ row_of table row.0) before.0 hands.handed.rows before.1.1.present hands.handed.present;
-      known = λ key e. known key;
-      none = λ _ key. none_noted new table all none off key;
-    },
+    before.1.0,
+    record { same = refl; present = before.1.1.present; known = before.1.1.known; none = λ _ key. none_noted new table before.1.1.all empty off key },
   ),
 )
-  where
-    rows : List Row
-    rows = before.0 ++ hands.handed.rows
-
-    known : (key : List ℕ) → (has_row rows key ≡ true) ⊎ (is_noted old table.table key ≡ false)
-    known key = elim (noted_or_not (is_filtered between.filter table.table key)) [
-      | inl filtered ↦ inl (rows_after before.0 hands.handed.rows key (hands.known key filtered))
-      | inr apart ↦
-          elim (before.1.1.known key (not_noted between table.table key before.1.1.all (ap (λ (ks : List (List ℕ)). has_key ks key) empty) apart)) [
-            | inl has ↦ inl (rows_before before.0 hands.handed.rows key has)
-            | inr not ↦ inr not
-          ]
-    ]
 
 some_left : (old new : NotedKeys) (table : TimedTable) (rows : List Row) → HandsOut old table rows new
     → TakesChanges (is_noted old table.table) table SomeTaken rows (is_noted new table.table) table
@@ -153,24 +135,77 @@ some_left old new table rows hands = record {
   none = λ no. absurd (let yes : is_some SomeTaken ≡ true = refl in cc);
 }
 
--- some may be left in the filter
-pub took_part : (old new : NotedKeys) (table : TimedTable) (first changes more : List Row) → ((rows : List Row) × ((changes ≡ first ++ rows) × HandsOut old table rows new))
-    → HandsOutPresent table changes more
-    → (rows : List Row) × ((more ≡ first ++ rows) × TakesChanges (is_noted old table.table) table SomeTaken rows (is_noted new table.table) table)
-took_part old new table first changes more before hands = (
-  before.0 ++ hands.rows,
+-- .. not all of them
+pub took_part : (old new : NotedKeys) (table : TimedTable) (first changes : List Row) → ((rows : List Row) × ((changes ≡ first ++ rows) × HandsOut old table rows new))
+    → (rows : List Row) × ((changes ≡ first ++ rows) × TakesChanges (is_noted old table.table) table SomeTaken rows (is_noted new table.table) table)
+took_part old new table first changes before = (before.0, (before.1.0, some_left old new table before.0 before.1.1))
+
+-- then rows of keys that the filter has no more
+filtered_more : (old between new : NotedKeys) (table : TimedTable) (changes more rows : List Row) → HandsOut old table rows between
+    → (hands : HandsOutFiltered table between.filter new.filter changes more) → new.all ≡ between.all → new.keys ≡ between.keys → HandsOut old table (rows ++ hands.handed.rows) new
+filtered_more old between new table changes more rows before hands all keys = record {
+  all = all ∙ before.all;
+  present = All-append (λ (row : Row). row.1 ≡ row_of table row.0) rows hands.handed.rows before.present hands.handed.present;
+  known = known;
+}
+  where
+    known : (key : List ℕ) → is_noted new table.table key ≡ false → (has_row (rows ++ hands.handed.rows) key ≡ true) ⊎ (is_noted old table.table key ≡ false)
+    known key e =
+        let why = unnoted new table.table key e in
+        elim (noted_or_not (is_filtered between.filter table.table key)) [
+          | inl filtered ↦ inl (rows_after rows hands.handed.rows key (hands.known key why.1.1 filtered))
+          | inr apart ↦
+              elim (before.known key (not_noted between table.table key before.all (ap (λ (ks : List (List ℕ)). has_key ks key) (sym keys) ∙ why.1.0) apart)) [
+                | inl has ↦ inl (rows_before rows hands.handed.rows key has)
+                | inr not ↦ inr not
+              ]
+        ]
+
+module _ (old between new : NotedKeys) (table : TimedTable) (first changes more : List Row) (before : (rows : List Row) × ((changes ≡ first ++ rows) × HandsOut old table rows between))
+    (hands : HandsOutFiltered table between.filter new.filter changes more) (all : new.all ≡ between.all) (keys : new.keys ≡ between.keys) where
+  rows : List Row
+  rows = before.0 ++ hands.handed.rows
+
+  added : more ≡ first ++ rows
+  added = hands.handed.added ∙ ap (λ (rs : List Row). rs ++ hands.handed.rows) before.1.0 ∙ append_assoc first before.0 hands.handed.rows
+
+  after : HandsOut old table rows new
+  after = filtered_more old between new table changes more before.0 before.1.1 hands all keys
+
+  -- some may be left in the filter
+  pub took_some : (rows : List Row) × ((more ≡ first ++ rows) × TakesChanges (is_noted old table.table) table SomeTaken rows (is_noted new table.table) table)
+  took_some = (rows, (added, some_left old new table rows after))
+
+  -- none is left
+  pub took_rest : between.keys ≡ [] → new.filter ≡ []
+      → (rows : List Row) × ((more ≡ first ++ rows) × TakesChanges (is_noted old table.table) table Rest rows (is_noted new table.table) table)
+  took_rest empty off = took_lists old new table first more (rows, (added, after)) (keys ∙ empty) off
+
+-- rows of some entries were handed out; each entry whose key is not noted is among them
+pub took_begun : (old full new : NotedKeys) (table : TimedTable) (changes more : List Row) → ((key : List ℕ) → may_have full.filter key ≡ true)
+    → HandsOutFiltered table full.filter new.filter changes more
+    → (rows : List Row) × ((more ≡ changes ++ rows) × TakesChanges (is_noted old table.table) table Begun rows (is_noted new table.table) table)
+took_begun old full new table changes more may hands = (
+  hands.handed.rows,
   (
-    hands.added ∙ ap (λ (rs : List Row). rs ++ hands.rows) before.1.0 ∙ append_assoc first before.0 hands.rows,
-    some_left old new table (before.0 ++ hands.rows) (record {
-      all = before.1.1.all;
-      present = All-append (λ (row : Row). row.1 ≡ row_of table row.0) before.0 hands.rows before.1.1.present hands.present;
-      known = λ key e. elim (before.1.1.known key e) [
-        | inl has ↦ inl (rows_before before.0 hands.rows key has)
-        | inr not ↦ inr not
-      ];
-    }),
+    hands.handed.added,
+    record {
+      same = refl;
+      present = hands.handed.present;
+      known = known;
+      none = λ no. absurd (let yes : is_some Begun ≡ true = refl in cc);
+    },
   ),
 )
+  where
+    known : (key : List ℕ) → is_noted new table.table key ≡ false → (has_row hands.handed.rows key ≡ true) ⊎ (finite.get table.table key ≡ None)
+    known key e = by_entry (finite.get table.table key) refl
+      where
+        by_entry : (value : Option (List ℕ)) → finite.get table.table key ≡ value → (has_row hands.handed.rows key ≡ true) ⊎ (finite.get table.table key ≡ None)
+        by_entry None is = inr is
+        by_entry (Some value) is =
+            let there : has_entry table.table key ≡ true = ap (λ (v : Option (List ℕ)). is_there v) is in
+            inl (hands.known key (unnoted new table.table key e).1.1 (filtered_there full.filter table.table key (may key) there))
 
 -- all entries were taken
 pub took_all : (old new : NotedKeys) (table : TimedTable) (before after : List Row) → HandsOutAll table before after → new.all ≡ false → new.keys ≡ [] → new.filter ≡ []

@@ -122,7 +122,7 @@ kept_by_filter old new table all keys off key e =
 pub kept_then_noted : (old between new : NotedKeys) (key : List ℕ) (table : Table) → KeepsNoted table old between → NotesKey table between key new → NotesKey table old key new
 kept_then_noted old between new key table kept notes other e = let known = notes other e in (kept other known.0, known.1)
 
-filtered_there : (filter : List Bool) (table : Table) (key : List ℕ) → may_have filter key ≡ true → has_entry table key ≡ true → is_filtered filter table key ≡ true
+pub filtered_there : (filter : List Bool) (table : Table) (key : List ℕ) → may_have filter key ≡ true → has_entry table key ≡ true → is_filtered filter table key ≡ true
 filtered_there filter table key has there = rw has there
 
 not_filtered : (before after : Bool) (there : Bool) → (after ≡ false → before ≡ false) → cond after there false ≡ false → cond before there false ≡ false

@@ -7,7 +7,7 @@ use Rattle.bins.specs.Table.{Table}
 use Rattle.timed_bins.specs.Deadlines.{TimedTable}
 use Rattle.noted_bins.specs.Filters.{may_have}
 use Rattle.noted_bins.specs.declared.taken.Taken.{Taken}
-use Rattle.noted_bins.specs.declared.taken.Taken.TheVariants.{All as AllTaken, Some as SomeTaken, Rest}
+use Rattle.noted_bins.specs.declared.taken.Taken.TheVariants.{All as AllTaken, Begun, Some as SomeTaken, Rest}
 use Rattle.noted_bins.specs.Rows.{Row, Saved, has_row, row_of, same_key}
 use mathlib.Core.Path.{refl}
 
@@ -25,18 +25,28 @@ CoversValues noted table kept = (key : List ℕ) → noted key ≡ false → fin
 
 abbrev pub is_all : Taken → Bool
 is_all AllTaken = true
+is_all Begun = false
 is_all SomeTaken = false
 is_all Rest = false
+
+-- if rows that were handed out before count no more
+abbrev pub is_anew : Taken → Bool
+is_anew AllTaken = true
+is_anew Begun = true
+is_anew SomeTaken = false
+is_anew Rest = false
 
 -- if keys may still be noted
 abbrev pub is_some : Taken → Bool
 is_some AllTaken = false
+is_some Begun = true
 is_some SomeTaken = true
 is_some Rest = false
 
--- why a key without a row is not noted: if all entries were taken, it has none; else it was not noted before
+-- why a key without a row is not noted: if all is taken anew, it has no entry; else it was not noted before
 abbrev pub IsKnown : Taken → (List ℕ → Bool) → TimedTable → List ℕ → Type 0
 IsKnown AllTaken noted table key = finite.get table.table key ≡ None
+IsKnown Begun noted table key = finite.get table.table key ≡ None
 IsKnown SomeTaken noted table key = noted key ≡ false
 IsKnown Rest noted table key = noted key ≡ false
 

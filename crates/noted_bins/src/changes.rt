@@ -3,9 +3,9 @@ ghost use Rattle.std.specs.Prelude.{◌≡◌, ◌<◌, ◌≤◌, ◌+◌, ◌-
 ghost use Rattle.timed_bins.specs.Deadlines.{timed_table};
 ghost use Rattle.noted_bins.specs.Marks.{marks_of, saved_as, saved_in};
 ghost use Rattle.noted_bins.specs.Rows.{Row, row_of};
-ghost use Rattle.noted_bins.specs.Taking.{HandsOutAll, HandsOutFiltered, HandsOutPresent, row_at};
+ghost use Rattle.noted_bins.specs.Taking.{HandsOutAll, HandsOutAt, HandsOutPresent, row_at};
 
-use crate::key_filter::KeyFilter;
+use crate::key_filter::{KeyFilter, Places};
 use crate::mark::{Mark, SavedEntry};
 use bins::{EntryList, HashedKey};
 use bpf_model::limits::{KEY_BYTES, VALUE_BYTES};
@@ -105,15 +105,16 @@ impl Changes {
         Ok(())
     }
 
-    /// Adds a row of each entry whose key the filter may have. Returns `NoMemory` if a request for memory is refused; then rows
-    /// of some of them were added.
+    /// Adds a row of each entry whose key the filter may have at these places. Returns `NoMemory` if a request for memory is refused;
+    /// then rows of some of them were added.
     pub(crate) fn add_filtered<T: TimedBins>(
         &mut self,
         bins: &T,
         filter: &KeyFilter,
+        places: Places,
     ) -> Result<(), NoMemory>
-        ensures ok { OnOk result (HandsOutFiltered
-            (timed_table (T.table bins.now) (T.deadline bins.now) (T.latest bins.now)) filter.now self.old self.new) }
+        ensures ok { OnOk result (HandsOutAt
+            (timed_table (T.table bins.now) (T.deadline bins.now) (T.latest bins.now)) filter.now places self.old self.new) }
         ensures err { OnErr result (HandsOutPresent
             (timed_table (T.table bins.now) (T.deadline bins.now) (T.latest bins.now)) self.old self.new) }
     {
@@ -122,7 +123,7 @@ impl Changes {
             let (bytes, value) = entries.get(position);
             let key = Key::from_slice(bytes).unwrap();
             let hashed = HashedKey::new(&key);
-            if filter.may_have(&hashed) {
+            if filter.may_have_at(&hashed, places) {
                 self.push(&key, value, Mark::of(bins.deadline_of(&hashed)))?;
             }
         }

@@ -1,11 +1,18 @@
 //! A filter of keys: it may take a key for one that was added, but never the other way round.
-ghost use Rattle.std.specs.Prelude.{◌≡◌, ◌<◌, ℕ, List, [], length, true, false, IsTrue};
-ghost use Rattle.noted_bins.specs.Filters.{may_have, place_in};
+ghost use Rattle.std.specs.Prelude.{◌≡◌, ◌<◌, ℕ, List, [], length, replicate, true, false, IsTrue, IfOk};
+ghost use Rattle.noted_bins.specs.Filters.{IsAmong, may_have, place_in};
 
 use bins::HashedKey;
 use bpf_model::NoMemory;
 use std::alloc::Global;
 use std::marker::Model;
+
+/// Some places of a filter, one after the other: from one up to another, which is not among them.
+#[derive(Clone, Copy)]
+pub(crate) struct Places {
+    pub(crate) from: usize,
+    pub(crate) to: usize,
+}
 
 /// A Bloom filter with one hash: a byte for each place, and each key has a place by its hash. If it is off, it has no places.
 #[derive(Drop)]
@@ -31,6 +38,23 @@ impl KeyFilter {
         }
     }
 
+    /// A filter of so many places that has no key, or may have each. Returns `NoMemory` if a request for memory is refused.
+    pub(crate) fn of(alloc: Global, places: usize, is_full: bool) -> Result<KeyFilter, NoMemory>
+        ensures { IfOk result (λ filter. filter ≡ replicate places is_full) }
+    {
+        let mut all = Vec::with_capacity(alloc, places)?;
+        all.resize(places, is_full)?;
+        Ok(KeyFilter { places: all })
+    }
+
+    /// Returns how many places there are.
+    #[inline(always)]
+    pub(crate) fn len(&self) -> usize
+        ensures { result ≡ length self.now }
+    {
+        self.places.len()
+    }
+
     /// Returns whether the filter is on.
     #[inline(always)]
     pub(crate) fn is_on(&self) -> bool
@@ -45,19 +69,12 @@ impl KeyFilter {
         self.places.capacity()
     }
 
-    /// Turns a filter on that is off, with so many places. Returns `NoMemory` if a request for memory is refused; then it stays off.
-    pub(crate) fn turn_on(&mut self, places: usize) -> Result<(), NoMemory> {
-        // No more room than this: it is much of what notes take.
-        self.places.try_reserve_exact(places)?;
-        self.places.resize(places, false)?;
-        Ok(())
-    }
-
-    /// Turns the filter off. Takes no memory.
+    /// Turns the filter off, and gives its memory back.
     pub(crate) fn turn_off(&mut self)
         ensures { self.new ≡ [] }
     {
         self.places.clear();
+        self.places.shrink_to(0);
     }
 
     /// Adds a key.
@@ -70,14 +87,28 @@ impl KeyFilter {
         self.places[place] = true;
     }
 
-    /// Returns whether a key with this one's place was added.
-    pub(crate) fn may_have(&self, key: &HashedKey<'_>) -> bool
-        ensures { result ≡ may_have self.now key.now }
+    /// Returns whether a key with this one's place was added, if that is one of these places.
+    pub(crate) fn may_have_at(&self, key: &HashedKey<'_>, places: Places) -> bool
+        ensures { result ≡ false → may_have self.now key.now ≡ true → ¬ IsAmong places self.now key.now }
     {
         if !self.is_on() {
             return false;
         }
-        self.places[place_of(self.places.len(), key.hash())]
+        let place = place_of(self.places.len(), key.hash());
+        if place < places.from || place >= places.to {
+            return false;
+        }
+        self.places[place]
+    }
+
+    /// Takes the keys out that have these places.
+    pub(crate) fn clear(&mut self, places: Places)
+        ensures { (key : List ℕ) → may_have self.new key ≡ false → may_have self.old key ≡ true → IsAmong places self.old key }
+    {
+        let end = places.to.min(self.places.len());
+        for place in places.from..end {
+            self.places[place] = false;
+        }
     }
 }
 

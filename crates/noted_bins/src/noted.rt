@@ -1,10 +1,11 @@
 //! Bins with notes of which keys changed.
-ghost use Rattle.std.specs.Prelude.{◌≡◌, ◌++◌, [], false, List, IsTrue, IfOk, OnErr, option_copied};
+ghost use Rattle.std.specs.Prelude.{◌≡◌, ◌++◌, [], true, false, List, IsTrue, IfOk, OnErr, option_copied};
 ghost use Rattle.atomic_methods.specs.Invocations.{get, invocation_of};
 ghost use Rattle.timed_bins.specs.Deadlines.{timed_table, MakesCall, RefusesCall, Expires};
 ghost use Rattle.noted_bins.specs.Hands.{HandsOut, LeavesSame};
-ghost use Rattle.noted_bins.specs.Notes.{NotesChanges, TakesChanges, is_noted};
+ghost use Rattle.noted_bins.specs.Notes.{NotesChanges, TakesChanges, is_anew, is_noted};
 ghost use Rattle.noted_bins.specs.Rows.{Row};
+ghost use Rattle.noted_bins.specs.Taking.{HandsOutFiltered};
 
 use crate::changes::Changes;
 use crate::noted_bins::NotedBins;
@@ -112,7 +113,28 @@ fn take_listed<T: TimedBins>(
     Ok(notes.is_empty())
 }
 
-/// Adds rows of noted keys to the changes: at most `most` if all are in the lists, else those of all.
+/// Adds rows of the entries that the filter may have at its next places to the changes. Returns whether the filter is off then. If a
+/// request for memory is refused, some of the rows are added, and the filter stays as it is.
+fn take_places<T: TimedBins>(
+    bins: &T,
+    notes: &mut Notes,
+    most: usize,
+    changes: &mut Changes,
+) -> bool
+    ensures all { notes.new.all ≡ notes.old.all }
+    ensures keys { notes.new.keys ≡ notes.old.keys }
+    ensures handed { HandsOutFiltered (timed_table (T.table bins.now) (T.deadline bins.now) (T.latest bins.now))
+        notes.old.filter notes.new.filter changes.old changes.new }
+    ensures off { IsTrue result → notes.new.filter ≡ [] }
+{
+    let places = notes.next_places(most);
+    if changes.add_filtered(bins, notes.filter(), places).is_err() {
+        return false;
+    }
+    notes.forget_places(places)
+}
+
+/// Adds rows of noted keys to the changes: at most `most` if all are in the lists, else those of the lists and of the filter's next places.
 fn take_some<T: TimedBins>(
     bins: &T,
     notes: &mut Notes,
@@ -125,19 +147,45 @@ fn take_some<T: TimedBins>(
         taken rows (is_noted notes.new (T.table bins.now)) (timed_table (T.table bins.now) (T.deadline bins.now) (T.latest bins.now)))) }
     ensures err { OnErr result ((changes.new ≡ changes.old) × (notes.new ≡ notes.old)) }
 {
-    let most = if notes.is_filtered() {
+    // With the filter on the lists are short.
+    let listed = if notes.is_filtered() {
         usize::MAX
     } else {
         most
     };
-    if !take_listed(bins, notes, most, changes)? {
+    if !take_listed(bins, notes, listed, changes)? {
         return Ok(Taken::Some);
     }
-    if changes.add_filtered(bins, notes.filter()).is_err() {
-        return Ok(Taken::Some);
+    if !notes.is_filtered() {
+        return Ok(Taken::Rest);
     }
-    notes.forget();
-    Ok(Taken::Rest)
+    if take_places(bins, notes, most, changes) {
+        return Ok(Taken::Rest);
+    }
+    Ok(Taken::Some)
+}
+
+/// Adds rows of all entries to the changes; or, if these are more than `most`, of some, and notes the others.
+fn take_anew<T: TimedBins>(
+    bins: &T,
+    notes: &mut Notes,
+    most: usize,
+    changes: &mut Changes,
+) -> Result<Taken, NoMemory>
+    ensures ok { IfOk result (λ taken. (rows : List Row) × ((changes.new ≡ changes.old ++ rows)
+        × TakesChanges (is_noted notes.old (T.table bins.now)) (timed_table (T.table bins.now) (T.deadline bins.now) (T.latest bins.now))
+        taken rows (is_noted notes.new (T.table bins.now)) (timed_table (T.table bins.now) (T.deadline bins.now) (T.latest bins.now)))) }
+    ensures anew { IfOk result (λ taken. is_anew taken ≡ true) }
+    ensures err { OnErr result ((changes.new ≡ changes.old) × (notes.new ≡ notes.old)) }
+{
+    let entries = bins.count();
+    if entries <= most as u64 || notes.note_entries(entries).is_err() {
+        changes.add_all(bins)?;
+        notes.forget();
+        return Ok(Taken::All);
+    }
+    take_places(bins, notes, most, changes);
+    Ok(Taken::Begun)
 }
 
 impl<T: TimedBins + Drop> Bins for Noted<T> {
@@ -254,11 +302,9 @@ impl<T: TimedBins + Drop> NotedBins for Noted<T> {
         most: usize,
         changes: &mut Changes,
     ) -> Result<Taken, NoMemory> {
-        if !anew && !self.notes.are_all() {
-            return take_some(&self.bins, &mut self.notes, most, changes);
+        if anew || self.notes.are_all() {
+            return take_anew(&self.bins, &mut self.notes, most, changes);
         }
-        changes.add_all(&self.bins)?;
-        self.notes.forget();
-        Ok(Taken::All)
+        take_some(&self.bins, &mut self.notes, most, changes)
     }
 }

@@ -2,7 +2,7 @@
 ghost use Rattle.std.specs.Prelude.{◌≡◌, ◌<◌, ◌^◌, ◌++◌, true, List, IsTrue, IfOk, OnErr, option_copied};
 ghost use Rattle.bins.specs.Replacements.{ReplacesEach};
 ghost use Rattle.timed_bins.specs.Deadlines.{timed_table, MakesCall, RefusesCall, Expires};
-ghost use Rattle.noted_bins.specs.Notes.{NotesChanges, TakesChanges, is_all};
+ghost use Rattle.noted_bins.specs.Notes.{NotesChanges, TakesChanges, is_anew};
 ghost use Rattle.noted_bins.specs.Rows.{Row};
 
 use crate::changes::Changes;
@@ -55,9 +55,10 @@ pub trait NotedBins: TimedBins {
             (timed_table (Self.table self.old) (Self.deadline self.old) (Self.latest self.old)) (noted self.new)
             (timed_table (Self.table self.new) (Self.deadline self.new) (Self.latest self.new)) };
 
-    /// Adds rows of noted keys to the changes: at most `most` of them, or of all if they are many; or of all entries if `anew`, or
-    /// if it isn't known which keys changed. Keys whose rows were added are no longer noted. If a request for memory is refused,
-    /// returns `NoMemory`, and nothing changes; or `Some`, with the rows for which there was room. Never waits.
+    /// Adds rows of noted keys to the changes, at most `most` of them; or of all entries if `anew`, or if it isn't known which keys
+    /// changed. If these are more than `most`, rows of some are added, and the others are noted then. (If they are more than 15 times `most`,
+    /// more are added at once: one in 15.) Keys whose rows were added are no longer noted. If a request for memory is refused, returns
+    /// `NoMemory`, and nothing changes; or `Begun` or `Some`, with the rows for which there was room. Never waits.
     fn take_changes(
         &mut self,
         anew: bool,
@@ -67,7 +68,7 @@ pub trait NotedBins: TimedBins {
         ensures ok { IfOk result (λ taken. (rows : List Row) × ((changes.new ≡ changes.old ++ rows)
             × TakesChanges (noted self.old) (timed_table (Self.table self.old) (Self.deadline self.old) (Self.latest self.old))
             taken rows (noted self.new) (timed_table (Self.table self.new) (Self.deadline self.new) (Self.latest self.new)))) }
-        ensures anew { IfOk result (λ taken. IsTrue anew → is_all taken ≡ true) }
+        ensures anew { IfOk result (λ taken. IsTrue anew → is_anew taken ≡ true) }
         ensures err { OnErr result ((changes.new ≡ changes.old) × (noted self.new ≡ noted self.old)
             × (timed_table (Self.table self.new) (Self.deadline self.new) (Self.latest self.new)
             ≡ timed_table (Self.table self.old) (Self.deadline self.old) (Self.latest self.old))) };

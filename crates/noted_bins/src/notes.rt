@@ -1,9 +1,10 @@
 //! Which keys changed.
-ghost use Rattle.std.specs.Prelude.{◌≡◌, ◌++◌, ◌<◌, [], ◌∷◌, ℕ, List, true, false, IsTrue, OnOk, MatchOption};
+ghost use Rattle.std.specs.Prelude.{◌≡◌, ◌++◌, ◌<◌, [], ◌∷◌, ℕ, List, true, false, IsTrue, OnOk, OnErr, MatchOption};
 ghost use Rattle.bins.specs.Table.{Table};
+ghost use Rattle.noted_bins.specs.Filters.{IsAmong, may_have};
 ghost use Rattle.noted_bins.specs.Notes.{KeepsNoted, NotesKey, has_key};
 
-use crate::key_filter::KeyFilter;
+use crate::key_filter::{KeyFilter, Places};
 use crate::short_key::ShortKey;
 use bins::{Bins, HashedKey};
 use bpf_model::{Key, NoMemory};
@@ -19,6 +20,9 @@ const PART: u64 = 1024;
 /// If the filter is on, the lists have room for so many times as many keys. If they are full then, all keys are noted.
 const MORE: u64 = 2;
 
+/// If the filter has more places than a save takes keys at once, the keys at so many parts of them are handed out one after the other.
+const PARTS: usize = 15;
+
 /// Places for the positions of keys that were noted last.
 const RECENT: usize = 256;
 
@@ -27,10 +31,13 @@ const RECENT: usize = 256;
 /// filter, which takes a byte for each entry, and just the others to the lists.
 #[derive(Drop)]
 pub(crate) struct Notes {
+    alloc: Global,
     all: bool,
     short: Vec<ShortKey>,
     long: Vec<Key>,
     filter: KeyFilter,
+    // Since the filter was turned on, the keys were handed out at the places below this one.
+    reached: usize,
     // By the hashes of keys, the positions at which they were put. By now another key may stand there, or none.
     recent: [u32; RECENT],
 }
@@ -52,10 +59,12 @@ impl Notes {
         ensures { result.all ≡ true }
     {
         Notes {
+            alloc,
             all: true,
             short: Vec::new(alloc),
             long: Vec::new(alloc),
             filter: KeyFilter::off(alloc),
+            reached: 0,
             recent: [0; RECENT],
         }
     }
@@ -70,7 +79,9 @@ impl Notes {
 
     /// Returns whether the filter is on.
     #[inline(always)]
-    pub(crate) fn is_filtered(&self) -> bool {
+    pub(crate) fn is_filtered(&self) -> bool
+        ensures { result ≡ false → self.now.filter ≡ [] }
+    {
         self.filter.is_on()
     }
 
@@ -185,10 +196,64 @@ impl Notes {
         if self.filter.is_on() {
             return;
         }
-        let places = entries.max(FEW) as usize;
-        if self.filter.turn_on(places).is_err() {
-            self.note_all();
+        match KeyFilter::of(self.alloc, places_for(entries), false) {
+            Ok(filter) => self.set_filter(filter),
+            Err(NoMemory) => self.note_all(),
         }
+    }
+
+    /// Has this filter, whose keys were not handed out yet.
+    fn set_filter(&mut self, filter: KeyFilter)
+        ensures all { self.new.all ≡ self.old.all }
+        ensures keys { self.new.keys ≡ self.old.keys }
+        ensures filter { self.new.filter ≡ filter }
+    {
+        self.filter = filter;
+        self.reached = 0;
+    }
+
+    /// Notes just the keys that have an entry, by a filter of so many that may have each key. Returns `NoMemory` if a request for memory
+    /// is refused; then nothing changes.
+    pub(crate) fn note_entries(&mut self, entries: u64) -> Result<(), NoMemory>
+        ensures all { OnOk result (self.new.all ≡ false) }
+        ensures keys { OnOk result (self.new.keys ≡ []) }
+        ensures filter { OnOk result ((key : List ℕ) → may_have self.new.filter key ≡ true) }
+        ensures err { OnErr result (self.new ≡ self.old) }
+    {
+        let filter = KeyFilter::of(self.alloc, places_for(entries), true)?;
+        self.forget();
+        self.set_filter(filter);
+        Ok(())
+    }
+
+    /// Returns the places whose keys are handed out next: all, if they are at most so many, or if the keys at each place were handed out
+    /// since the filter was turned on; else so many of them, or a part of all.
+    pub(crate) fn next_places(&self, most: usize) -> Places {
+        let all = self.filter.len();
+        let part = most.max(all / PARTS);
+        if part >= all || self.reached >= all {
+            return Places { from: 0, to: all };
+        }
+        Places {
+            from: self.reached,
+            to: self.reached.saturating_add(part),
+        }
+    }
+
+    /// Takes the keys out of the filter that have these places. If these are all, turns it off. Returns whether it is off.
+    pub(crate) fn forget_places(&mut self, places: Places) -> bool
+        ensures all { self.new.all ≡ self.old.all }
+        ensures keys { self.new.keys ≡ self.old.keys }
+        ensures others { (key : List ℕ) → may_have self.new.filter key ≡ false → may_have self.old.filter key ≡ true → IsAmong places self.old.filter key }
+        ensures off { IsTrue result → self.new.filter ≡ [] }
+    {
+        if places.from == 0 && places.to >= self.filter.len() {
+            self.filter.turn_off();
+            return true;
+        }
+        self.filter.clear(places);
+        self.reached = places.to;
+        false
     }
 
     /// Adds a key to its list, and remembers its position.
@@ -247,4 +312,11 @@ fn place_of(key: &HashedKey<'_>) -> usize
     ensures { result < RECENT }
 {
     (key.hash().wrapping_mul(0x9E37_79B1) >> 24) as usize % RECENT
+}
+
+/// Returns how many places a filter of so many entries has.
+fn places_for(entries: u64) -> usize
+    ensures { 0 < result }
+{
+    entries.max(FEW) as usize
 }

@@ -1,11 +1,11 @@
-use Rattle.std.proofs.Common.{◌≡◌, ◌++◌, ◌∷◌, [], List, ℕ, Bool, Some, refl, sym, ap, ◌∙◌, subst}
+use Rattle.std.proofs.Common.{◌≡◌, ◌++◌, ◌∷◌, [], List, Some, refl, sym, ap, ◌∙◌, subst}
 use Rattle.atomic_table.specs.Table.{rest}
 use Rattle.stripe_rule.specs.Gains.{seen_of}
 use Rattle.timed_bins.specs.Deadlines.{TimedTable, timed_table}
 use Rattle.noted_bins.specs.Rows.{Row}
 use Rattle.bin_stripes.specs.Actions.{Action}
 use Rattle.bin_stripes.specs.Histories.{own_events}
-use Rattle.bin_stripes.specs.Saves.{LeavesBins, kept_in}
+use Rattle.bin_stripes.specs.Saves.{LeavesBins}
 use Rattle.bin_stripes.specs.Deeds.{SavesBy}
 use Rattle.bin_stripes.specs.Releasing.{Lets}
 use Rattle.bin_stripes.proofs.SaveLemmas.{save_made, left_more, same_covered}

@@ -1,7 +1,7 @@
 use Rattle.std.proofs.Common.{◌∷◌, [], rules}
 use Rattle.atomic_methods.specs.Plans.{reply_by}
 use Rattle.bin_stripes.specs.Actions.{called}
-use Rattle.bin_stripes.proofs.StepLemmas.{refuses_after, settles_as}
+use Rattle.bin_stripes.proofs.StepLemmas.{settles_as}
 use Rattle.bin_stripes.proofs.PassLemmas.{on_err_of}
 use Rattle.bin_stripes.proofs.TimedLemmas.{settles_refused, seat_refused}
 use Rattle.bin_stripes.proofs.seats.try_call.Goals as goal

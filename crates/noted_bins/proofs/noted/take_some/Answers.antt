@@ -1,14 +1,21 @@
-use Rattle.noted_bins.proofs.HandLemmas.{if_err, if_ok, took_part, took_rest}
+use Rattle.noted_bins.proofs.HandLemmas.{took_lists, took_part, took_rest, took_some}
 use Rattle.noted_bins.proofs.noted.take_some.Goals as goal
 
--- memory was refused
-pub returns-then-is_err-clause-ok : goal.returns-then-is_err-clause-ok
-returns-then-is_err-clause-ok g c =
-    took_part _ _ _ _ _ _ c.in_ok-take_listed.ensures.ok (if_err c.add_filtered.result c.if-is_err.ensures.value c.add_filtered.ensures.err)
+-- keys are left in the lists
+pub returns-then-not-branch-clause-ok : goal.returns-then-not-branch-clause-ok
+returns-then-not-branch-clause-ok g c = took_part _ _ _ _ _ c.in_ok-take_listed.ensures.ok
 
--- none is left
+-- .. or none, and the filter is off
+pub returns-then-not-is_filtered-clause-ok : goal.returns-then-not-is_filtered-clause-ok
+returns-then-not-is_filtered-clause-ok g c =
+    took_lists _ _ _ _ _ c.in_ok-take_listed.ensures.ok (c.in_ok-take_listed.ensures.none c.if-not-branch.false) (c.is_filtered-2.ensures c.if-not-is_filtered.true)
+
+-- none is left in the filter
+pub returns-then-take_places-clause-ok : goal.returns-then-take_places-clause-ok
+returns-then-take_places-clause-ok g c =
+    took_rest _ _ _ _ _ _ _ c.in_ok-take_listed.ensures.ok c.take_places.ensures.handed c.take_places.ensures.all c.take_places.ensures.keys
+    (c.in_ok-take_listed.ensures.none c.if-not-branch.false) (c.take_places.ensures.off c.if-take_places.true)
+
+-- some may be
 pub returns-clause-ok : goal.returns-clause-ok
-returns-clause-ok g c =
-    let filtered = rw c.filter.ensures at (if_ok c.add_filtered.result c.if-is_err.ensures.value c.add_filtered.ensures.ok) in
-    took_rest _ _ _ _ _ _ _ c.in_ok-take_listed.ensures.ok (c.in_ok-take_listed.ensures.none c.if-not-branch.false) filtered
-    c.forget.ensures.all c.forget.ensures.keys c.forget.ensures.filter
+returns-clause-ok g c = took_some _ _ _ _ _ _ _ c.in_ok-take_listed.ensures.ok c.take_places.ensures.handed c.take_places.ensures.all c.take_places.ensures.keys

@@ -7,7 +7,7 @@ use Rattle.stripe_rule.proofs.TellLemmas.{hears}
 use Rattle.stripe_rule.proofs.JoinLemmas.{joined}
 use Rattle.atomic_methods.proofs.StripeLemmas.{some_stripe}
 use Rattle.bin_stripes.specs.declared.ghost_action.GhostAction.{GhostAction}
-use Rattle.bin_stripes.specs.Histories.{empty, does}
+use Rattle.bin_stripes.specs.Histories.{empty}
 use Rattle.bin_stripes.specs.Passes.{IsPass, stripes_of}
 use Rattle.bin_stripes.proofs.StepLemmas.{settles_lost}
 use Rattle.bin_stripes.proofs.AllSeenLemmas.{sees_just_theirs}

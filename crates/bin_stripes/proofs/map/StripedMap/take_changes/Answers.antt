@@ -1,7 +1,4 @@
-use Rattle.std.proofs.Common.{◌≡◌, sym, ap, ◌∙◌, subst}
-use Rattle.bin_stripes.specs.Deeds.{LetsSave}
-use Rattle.bin_stripes.specs.Histories.{does, empty}
-use Rattle.bin_stripes.specs.Passes.{stripes_of}
+use Rattle.std.proofs.Common.{◌≡◌, sym, ap, ◌∙◌}
 use Rattle.bin_stripes.proofs.StepLemmas.{holds_after}
 use Rattle.bin_stripes.proofs.PassLemmas.{rests_of, if_ok_so}
 use Rattle.bin_stripes.proofs.SavingLemmas.{saves_stripe_of}
