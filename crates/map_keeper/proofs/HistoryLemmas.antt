@@ -26,7 +26,7 @@ no_save table event none = by_action event.action.action refl
     by_action (called invocation reply) is = refl
     by_action (scanned entries) is = refl
     by_action (replaced key program arg outcome) is = refl
-    by_action (saved all rows) is = absurd (none (all, rows, is))
+    by_action (saved taken rows) is = absurd (none (taken, rows, is))
 
 -- what else happened adds nothing to what was handed out
 by_others : (q : ℕ) (table : Table) (events : List (Event GhostAction)) → OnlySaves q events → kept_from table events ≡ kept_from table (made_by q events)

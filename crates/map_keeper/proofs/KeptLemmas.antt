@@ -23,6 +23,7 @@ use Rattle.kept_file.proofs.ChangeLemmas.{spells_all}
 use Rattle.kept_file.proofs.DeleteLemmas.{clears}
 use Rattle.kept_file.proofs.LogLemmas.{changes_beside, changes_cleared, changes_more, cleared_beside}
 use Rattle.kept_file.proofs.OtherLemmas.{sets, scripts, programs}
+use Rattle.noted_bins.specs.Notes.{is_anew}
 use Rattle.noted_bins.specs.Rows.{Row as SavedRow, put_rows, value_in, values_of}
 use Rattle.stripe_rule.specs.declared.view.Event.{Event}
 use Rattle.stripe_rule.specs.declared.view.View.{View}
@@ -128,15 +129,15 @@ module _ {S : Type 0} (shown : Held S → State) where
         others = λ j other apart was. more.others j other apart (more_beside j k (changes_bytes part) (shown old) (shown made.0) other apart one was);
       }
 
-  -- a round, if it has all entries, or if the file had what was handed out before it
-  round_changes : (k : ℕ) (round : Round) (table : Table) (old new : Held S) → IsFit round → HasTables (shown old) → (round.all ≡ true) ⊎ HasStripe (shown old) k table
+  -- a round, if rows before it count no more, or if the file had what was handed out before it
+  round_changes : (k : ℕ) (round : Round) (table : Table) (old new : Held S) → IsFit round → HasTables (shown old) → (is_anew round.taken ≡ true) ⊎ HasStripe (shown old) k table
       → MakesAll shown (statements_of k round) old new → Changes k (kept_after table (action_of round)) (shown old) (shown new)
   unfolding MakesAll
-  round_changes k round table old new fit has start made = by_all round.all refl start made
+  round_changes k round table old new fit has start made = by_anew (is_anew round.taken) refl start made
     where
-      by_all : (all : Bool) → round.all ≡ all → (round.all ≡ true) ⊎ HasStripe (shown old) k table → MakesAll shown (statements_of k round) old new
+      by_anew : (anew : Bool) → is_anew round.taken ≡ anew → (is_anew round.taken ≡ true) ⊎ HasStripe (shown old) k table → MakesAll shown (statements_of k round) old new
           → Changes k (kept_after table (action_of round)) (shown old) (shown new)
-      by_all true is start made =
+      by_anew true is start made =
           let made_all = subst (λ b. MakesAll shown (cond b (clearing k ∷ []) [] ++ map (statement_of k) round.parts) old new) is made in
           let cleared = clears (kept_number k) (shown old) (shown made_all.0) has made_all.1 in
           let more = parts_change k round.parts finite.empty made_all.0 new fit cleared.tables (stripe_cleared k (shown old) (shown made_all.0) cleared) made_all.2 in
@@ -145,7 +146,7 @@ module _ {S : Type 0} (shown : Held S → State) where
             mine = more.mine;
             others = λ j other apart was. more.others j other apart (clear_beside j k (shown old) (shown made_all.0) other apart cleared was);
           })
-      by_all false is start made =
+      by_anew false is start made =
           let made_rows = subst (λ b. MakesAll shown (cond b (clearing k ∷ []) [] ++ map (statement_of k) round.parts) old new) is made in
           let stripe : HasStripe (shown old) k table = elim start [ inl all ↦ absurd (let e = sym is ∙ all in cc) | inr had ↦ had ] in
           subst (λ b. Changes k (put_rows (cond b finite.empty table) (values_of (rows_of round.parts))) (shown old) (shown new)) (sym is)
@@ -172,8 +173,8 @@ module _ {S : Type 0} (shown : Held S → State) where
       let more = later_change k rounds (kept_after table (action_of round)) parts.0 new (λ i d low. fit (suc i) d (omega (arith, low))) one.tables one.mine parts.2 in
       record { tables = more.tables; mine = more.mine; others = λ j other apart was. more.others j other apart (one.others j other apart was) }
 
-  -- all rounds, the first of which may have all entries
-  rounds_change : (k : ℕ) (first : Round) (rounds : List Round) (table : Table) (old new : Held S) → All IsFit (first ∷ rounds) → HasTables (shown old) → (first.all ≡ true) ⊎ HasStripe (shown old) k table
+  -- all rounds, the first of which may begin anew
+  rounds_change : (k : ℕ) (first : Round) (rounds : List Round) (table : Table) (old new : Held S) → All IsFit (first ∷ rounds) → HasTables (shown old) → (is_anew first.taken ≡ true) ⊎ HasStripe (shown old) k table
       → MakesAll shown (statements_in k (first ∷ rounds)) old new → Changes k (after_rounds table (first ∷ rounds)) (shown old) (shown new)
   rounds_change k first rounds table old new fit has start made =
       let parts = makes_apart (statements_of k first) (statements_in k rounds) old new made in
@@ -213,7 +214,7 @@ module _ {S : Type 0} (shown : Held S → State) where
       let some = some_rounds saves.rounds handed.events saves.ends.earlier saves.ends.last handed.actions saves.ends.mine in
       let table = kept_in (mine_of v k) in
       let begins = subst (BeginsAnew anew) some.2 handed.start in
-      let first : (some.0.all ≡ true) ⊎ HasStripe (shown old) k table = elim start [ inl all ↦ inl (begins all) | inr had ↦ inr had ] in
+      let first : (is_anew some.0.taken ≡ true) ⊎ HasStripe (shown old) k table = elim start [ inl all ↦ inl (begins all) | inr had ↦ inr had ] in
       let change = rounds_change k some.0 some.1 table old new (subst (All IsFit) some.2 saves.fit) has first (subst (λ r. MakesAll shown (statements_in k r) old new) some.2 saves.made) in
       let is : after_rounds table (some.0 ∷ some.1) ≡ kept_in (mine_of w k) =
       ap (after_rounds table) (sym some.2) ∙ (after_their_actions table saves.rounds ∙ (ap (after_actions table) (sym handed.actions)

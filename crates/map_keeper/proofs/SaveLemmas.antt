@@ -7,7 +7,7 @@ use Rattle.stripe_rule.specs.declared.view.Event.{Event}
 use Rattle.stripe_rule.specs.declared.view.View.{View}
 use Rattle.stripe_rule.specs.Gains.{Keeps, seen_of, mine_of}
 use Rattle.noted_bins.specs.Rows.{Row, values_of}
-use Rattle.noted_bins.specs.Notes.{is_all, is_some}
+use Rattle.noted_bins.specs.Notes.{is_some}
 use Rattle.noted_bins.specs.declared.taken.Taken.{Taken}
 use Rattle.bin_stripes.specs.declared.ghost_action.GhostAction.{GhostAction}
 use Rattle.bin_stripes.specs.Actions.{saved}
@@ -43,8 +43,8 @@ on_stripe old new k adds elsewhere j = elim (same_or_not j k) [
 pub one_save : (old : PassState) (k : ℕ) (before after : List Row) (taken : Taken) (new : PassState) → SavesStripe old k before after taken new
     → MadeOnlySaves old.view new.view
 one_save old k before after taken new saves =
-    let events = own_events old.view (saved (is_all taken) (values_of saves.rows) ∷ []) in
-    on_stripe old.view new.view k (events, saves.makes.here.mine, All-cons IsSave _ [] (is_all taken, values_of saves.rows, refl) (All-nil IsSave)) saves.makes.elsewhere
+    let events = own_events old.view (saved taken (values_of saves.rows) ∷ []) in
+    on_stripe old.view new.view k (events, saves.makes.here.mine, All-cons IsSave _ [] (taken, values_of saves.rows, refl) (All-nil IsSave)) saves.makes.elsewhere
 
 -- after a save that failed
 pub no_save : (old : PassState) (k : ℕ) (new : PassState) → Makes old k [] new → MadeOnlySaves old.view new.view

@@ -11,7 +11,7 @@ use Rattle.stripe_rule.specs.declared.view.Event.{Event}
 use Rattle.stripe_rule.specs.declared.view.View.{View}
 use Rattle.stripe_rule.specs.Gains.{Keeps, seen_of, mine_of, own_event}
 use Rattle.noted_bins.specs.Rows.{Row, values_of}
-use Rattle.noted_bins.specs.Notes.{is_all}
+use Rattle.noted_bins.specs.Notes.{is_anew}
 use Rattle.noted_bins.specs.declared.taken.Taken.{Taken}
 use Rattle.kept_file.specs.Saves.{Makes}
 use Rattle.kept_file.specs.Statements.{Statement, appending, clearing}
@@ -41,7 +41,7 @@ hands_nothing anew v k = record {
 }
 
 -- the first round stays the first
-start_more : (anew : Bool) (rounds : List Round) (round : Round) → BeginsAnew anew rounds → (length rounds ≡ 0 → IsTrue anew → round.all ≡ true)
+start_more : (anew : Bool) (rounds : List Round) (round : Round) → BeginsAnew anew rounds → (length rounds ≡ 0 → IsTrue anew → is_anew round.taken ≡ true)
     → BeginsAnew anew (rounds ++ round ∷ [])
 start_more anew [] round start first = first refl
 start_more anew (one ∷ more) round start first = start
@@ -56,20 +56,20 @@ some_more rounds round = omega (arith, length-append {A = Round})
 
 -- one round more, after which the last event is its own
 hands_more : (anew : Bool) (v : View GhostAction) (p : PassState) (k : ℕ) (rows : List Row) (taken : Taken) (q : PassState) (rounds : List Round) (round : Round)
-    → HandsOut anew v p.view k rounds → Saves p k [] rows taken q → (length rounds ≡ 0 → IsTrue anew → is_all taken ≡ true)
-    → round.all ≡ is_all taken → rows ≡ rows_of round.parts → EndsWithOwn anew v q.view k (rounds ++ round ∷ [])
+    → HandsOut anew v p.view k rounds → Saves p k [] rows taken q → (length rounds ≡ 0 → IsTrue anew → is_anew taken ≡ true)
+    → round.taken ≡ taken → rows ≡ rows_of round.parts → EndsWithOwn anew v q.view k (rounds ++ round ∷ [])
 hands_more anew v p k rows taken q rounds round hands saves first is_so has_rows =
     let here = saves.makes.here in
-    let event : Event GhostAction = own_event p.view (record { action = saved (is_all taken) (values_of saves.rows) }) in
+    let event : Event GhostAction = own_event p.view (record { action = saved taken (values_of saves.rows) }) in
     let own : List (Event GhostAction) = event ∷ [] in
-    let same : saved (is_all taken) (values_of saves.rows) ≡ action_of round = ap (λ (b : Bool). saved b (values_of saves.rows)) (sym is_so) ∙ ap (λ (l : List Row). saved round.all (values_of l)) (sym saves.added ∙ has_rows) in
+    let same : saved taken (values_of saves.rows) ≡ action_of round = ap (λ (t : Taken). saved t (values_of saves.rows)) (sym is_so) ∙ ap (λ (l : List Row). saved round.taken (values_of l)) (sym saves.added ∙ has_rows) in
     record {
       handed = record {
-        start = start_more anew rounds round hands.start (λ none yes. is_so ∙ first none yes);
+        start = start_more anew rounds round hands.start (λ none yes. ap is_anew is_so ∙ first none yes);
         events = hands.events ++ own;
         made = here.mine ∙ (ap (λ (l : List (Event GhostAction)). l ++ own) hands.made ∙ append_assoc (mine_of v k) hands.events own);
         actions = map-append (λ (e : Event GhostAction). e.action.action) hands.events own
-            ∙ (ap (λ l. l ++ saved (is_all taken) (values_of saves.rows) ∷ []) hands.actions
+            ∙ (ap (λ l. l ++ saved taken (values_of saves.rows) ∷ []) hands.actions
             ∙ (ap (λ (action : Action). map action_of rounds ++ action ∷ []) same ∙ sym (map-append action_of rounds (round ∷ []))));
         more = (hands.more ++ here.between) ++ own;
         seen = here.seen ∙ (ap (λ (l : List (Event GhostAction)). (l ++ here.between) ++ own) hands.seen
@@ -94,18 +94,18 @@ handed_none anew v k = record { rounds = []; hands = hands_nothing anew v k; lat
 
 -- one more, after which the last event is its own
 pub handed_more : (anew : Bool) (v : View GhostAction) (p : PassState) (k i : ℕ) (rows : List Row) (taken : Taken) (q : PassState) → Handed anew v p.view k i
-    → Saves p k [] rows taken q → (i ≡ 0 → IsTrue anew → is_all taken ≡ true) → IsSavedSince anew v q.view k
+    → Saves p k [] rows taken q → (i ≡ 0 → IsTrue anew → is_anew taken ≡ true) → IsSavedSince anew v q.view k
 handed_more anew v p k i rows taken q handed saves first =
-    let round : Round = record { all = is_all taken; parts = rows ∷ [] } in (
+    let round : Round = record { taken = taken; parts = rows ∷ [] } in (
       handed.rounds ++ round ∷ [],
       hands_more anew v p k rows taken q handed.rounds round handed.hands saves (λ none yes. first (is_first_round i (length handed.rounds) handed.later none) yes) refl (sym (append-nil rows)),
     )
 
 -- .. and not the last one
 pub handed_on : (anew : Bool) (v : View GhostAction) (p : PassState) (k i : ℕ) (rows : List Row) (taken : Taken) (q : PassState) → Handed anew v p.view k i
-    → Saves p k [] rows taken q → (i ≡ 0 → IsTrue anew → is_all taken ≡ true) → Handed anew v q.view k (i + 1)
+    → Saves p k [] rows taken q → (i ≡ 0 → IsTrue anew → is_anew taken ≡ true) → Handed anew v q.view k (i + 1)
 handed_on anew v p k i rows taken q handed saves first =
-    let round : Round = record { all = is_all taken; parts = rows ∷ [] } in
+    let round : Round = record { taken = taken; parts = rows ∷ [] } in
     let ends = hands_more anew v p k rows taken q handed.rounds round handed.hands saves (λ none yes. first (is_first_round i (length handed.rounds) handed.later none) yes) refl (sym (append-nil rows)) in
     record { rounds = handed.rounds ++ round ∷ []; hands = ends.handed; later = λ low. some_more handed.rounds round }
 
@@ -283,12 +283,13 @@ module _ {S : Type 0} (shown : Held S → State) where
       }
 
   -- the round of rows that were written
-  abbrev pub round_of : (k : ℕ) (all : Bool) (rows : List Row) (a b : Held S) → WritesRound shown k all rows a b → Round
-  round_of k all rows a b writes = record { all = all; parts = writes.rest.parts }
+  abbrev pub round_of : (k : ℕ) (taken : Taken) (rows : List Row) (a b : Held S) → WritesRound shown k (is_anew taken) rows a b → Round
+  round_of k taken rows a b writes = record { taken = taken; parts = writes.rest.parts }
 
   -- its statements were made
-  round_made : (k : ℕ) (all : Bool) (rows : List Row) (a b : Held S) (writes : WritesRound shown k all rows a b) → MakesAll shown (statements_of k (round_of k all rows a b writes)) a b
-  round_made k all rows a b writes = makes_then (if all then clearing k ∷ [] else []) (map (statement_of k) writes.rest.parts) a writes.mid b writes.start writes.rest.made
+  round_made : (k : ℕ) (taken : Taken) (rows : List Row) (a b : Held S) (writes : WritesRound shown k (is_anew taken) rows a b)
+      → MakesAll shown (statements_of k (round_of k taken rows a b writes)) a b
+  round_made k taken rows a b writes = makes_then (if is_anew taken then clearing k ∷ [] else []) (map (statement_of k) writes.rest.parts) a writes.mid b writes.start writes.rest.made
 
   -- rounds of the stripe k since then, whose statements were made
   pub record Wrote (anew : Bool) (v w : View GhostAction) (k i : ℕ) (a b : Held S) : Type 0 where
@@ -303,23 +304,23 @@ module _ {S : Type 0} (shown : Held S → State) where
 
   -- one round more, after which the last event is its own
   pub wrote_more : (anew : Bool) (v : View GhostAction) (p : PassState) (k i : ℕ) (rows : List Row) (taken : Taken) (q : PassState) (a b c : Held S) → Wrote anew v p.view k i a b
-      → Saves p k [] rows taken q → (i ≡ 0 → IsTrue anew → is_all taken ≡ true) → WritesRound shown k (is_all taken) rows b c → SavesStripe shown anew v q.view k a c
+      → Saves p k [] rows taken q → (i ≡ 0 → IsTrue anew → is_anew taken ≡ true) → WritesRound shown k (is_anew taken) rows b c → SavesStripe shown anew v q.view k a c
   wrote_more anew v p k i rows taken q a b c wrote saves first writes =
-      let round = round_of k (is_all taken) rows b c writes in
+      let round = round_of k taken rows b c writes in
       record {
         rounds = wrote.rounds ++ round ∷ [];
         ends = hands_more anew v p k rows taken q wrote.rounds round wrote.hands saves (λ none yes. first (is_first_round i (length wrote.rounds) wrote.later none) yes) refl writes.rest.are;
         fit = All-append IsFit wrote.rounds (round ∷ []) wrote.fit (All-cons IsFit round [] writes.rest.within (All-nil IsFit));
-        made = makes_round k wrote.rounds round a b c wrote.made (round_made k (is_all taken) rows b c writes);
+        made = makes_round k wrote.rounds round a b c wrote.made (round_made k taken rows b c writes);
       }
 
   -- .. and not the last one
   pub wrote_on : (anew : Bool) (v : View GhostAction) (p : PassState) (k i : ℕ) (rows : List Row) (taken : Taken) (q : PassState) (a b c : Held S) → Wrote anew v p.view k i a b
-      → Saves p k [] rows taken q → (i ≡ 0 → IsTrue anew → is_all taken ≡ true) → WritesRound shown k (is_all taken) rows b c → Wrote anew v q.view k (i + 1) a c
+      → Saves p k [] rows taken q → (i ≡ 0 → IsTrue anew → is_anew taken ≡ true) → WritesRound shown k (is_anew taken) rows b c → Wrote anew v q.view k (i + 1) a c
   unfolding wrote_more
   wrote_on anew v p k i rows taken q a b c wrote saves first writes =
       let more = wrote_more anew v p k i rows taken q a b c wrote saves first writes in
-      record { rounds = more.rounds; hands = more.ends.handed; later = λ low. some_more wrote.rounds (round_of k (is_all taken) rows b c writes); fit = more.fit; made = more.made }
+      record { rounds = more.rounds; hands = more.ends.handed; later = λ low. some_more wrote.rounds (round_of k taken rows b c writes); fit = more.fit; made = more.made }
 
   pub stripe_kept : (anew : Bool) (v u w : View GhostAction) (k : ℕ) (a b : Held S) → SavesStripe shown anew v u k a b → Keeps u w k → SavesStripe shown anew v w k a b
   stripe_kept anew v u w k a b saves keeps = record { rounds = saves.rounds; ends = ends_kept anew v u w k saves.rounds saves.ends keeps; fit = saves.fit; made = saves.made }

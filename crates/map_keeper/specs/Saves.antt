@@ -1,9 +1,10 @@
 -- What a pass that only saves makes and knows.
-use Rattle.std.specs.Prelude.{◌≡◌, ℕ, Bool, List, Option, ◌++◌, All}
+use Rattle.std.specs.Prelude.{◌≡◌, ℕ, List, Option, ◌++◌, All}
 use Rattle.stripe_rule.specs.declared.view.Event.{Event}
 use Rattle.stripe_rule.specs.declared.view.View.{View}
 use Rattle.stripe_rule.specs.Gains.{seen_of, mine_of}
 use Rattle.bin_stripes.specs.declared.ghost_action.GhostAction.{GhostAction}
+use Rattle.noted_bins.specs.declared.taken.Taken.{Taken}
 use Rattle.bin_stripes.specs.Actions.{saved}
 use Rattle.bin_stripes.specs.Histories.{Leaves}
 use Rattle.bin_stripes.specs.Passes.{PassState, stripes_of}
@@ -19,7 +20,7 @@ IsWhole pass k = IsWholeIn (stripes_of pass.map) pass.view k
 
 -- the event handed out rows, and changed nothing
 abbrev pub IsSave : Event GhostAction → Type 0
-IsSave event = (all : Bool) × (rows : List (List ℕ × Option (List ℕ))) × (event.action.action ≡ saved all rows)
+IsSave event = (taken : Taken) × (rows : List (List ℕ × Option (List ℕ))) × (event.action.action ≡ saved taken rows)
 
 -- all that the pass made since then, on any stripe, are saves
 abbrev pub MadeOnlySaves : View GhostAction → View GhostAction → Type 0

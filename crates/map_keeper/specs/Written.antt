@@ -10,6 +10,8 @@ use Rattle.kept_file.specs.Statements.{Statement, appending, clearing, noting_st
 use Rattle.stripe_rule.specs.declared.view.Event.{Event}
 use Rattle.stripe_rule.specs.declared.view.View.{View}
 use Rattle.stripe_rule.specs.Gains.{seen_of, mine_of}
+use Rattle.noted_bins.specs.declared.taken.Taken.{Taken}
+use Rattle.noted_bins.specs.Notes.{is_anew}
 use Rattle.noted_bins.specs.Rows.{Row, values_of}
 use Rattle.bin_stripes.specs.declared.ghost_action.GhostAction.{GhostAction}
 use Rattle.bin_stripes.specs.Actions.{Action, saved}
@@ -19,9 +21,9 @@ use Rattle.map_keeper.specs.Saves.{IsWholeIn}
 abbrev pub statement_of : ℕ → List Row → Statement
 statement_of k part = appending k (changes_bytes part)
 
--- what was handed out of a stripe in one hold of it: rows, in parts that each make a batch; if `all`, of all its entries
+-- what was handed out of a stripe in one hold of it: what that came to, and rows, in parts that each make a batch
 pub record Round : Type 0 where
-  pub all : Bool
+  pub taken : Taken
   pub parts : List (List Row)
 
 -- each key and value of the round is as long as a file has them
@@ -33,11 +35,11 @@ rows_of parts = flat_map (λ part. part) parts
 
 -- the action of a pass that handed them out
 abbrev pub action_of : Round → Action
-action_of round = saved round.all (values_of (rows_of round.parts))
+action_of round = saved round.taken (values_of (rows_of round.parts))
 
--- the statements of a round: if it has all entries of the stripe, what the file has of it goes first
+-- the statements of a round: if rows before it count no more, what the file has of the stripe goes first
 abbrev pub statements_of : ℕ → Round → List Statement
-statements_of k round = (if round.all then clearing k ∷ [] else []) ++ map (statement_of k) round.parts
+statements_of k round = (if is_anew round.taken then clearing k ∷ [] else []) ++ map (statement_of k) round.parts
 
 -- .. of one round after the other
 abbrev pub statements_in : ℕ → List Round → List Statement
@@ -48,10 +50,10 @@ statements_in k (round ∷ rounds) = statements_of k round ++ statements_in k ro
 abbrev pub actions_in : List (Event GhostAction) → List Action
 actions_in events = map (λ (event : Event GhostAction). event.action.action) events
 
--- if all is taken anew, the first round has all entries of its stripe
+-- if all is taken anew, so is it by the first round
 abbrev pub BeginsAnew : Bool → List Round → Type 0
 BeginsAnew anew [] = ⊤
-BeginsAnew anew (first ∷ more) = IsTrue anew → first.all ≡ true
+BeginsAnew anew (first ∷ more) = IsTrue anew → is_anew first.taken ≡ true
 
 -- the pass made just these rounds on the stripe k since then, and knows others' events between them
 pub record HandsOut (anew : Bool) (old new : View GhostAction) (k : ℕ) (rounds : List Round) : Type 0 where
@@ -116,10 +118,10 @@ module _ {S : Type 0} (shown : Held S → State) where
     pub bytes_are : bytes ≡ changes_bytes left
     pub made : MakesAll (map (statement_of k) parts) from to
 
-  -- the statements of all the rows were made; if they are all entries of the stripe, what the file had of it went first
-  pub record WritesRound (k : ℕ) (all : Bool) (rows : List Row) (from to : Held S) : Type 0 where
+  -- the statements of all the rows were made; if rows before them count no more, what the file had of the stripe went first
+  pub record WritesRound (k : ℕ) (anew : Bool) (rows : List Row) (from to : Held S) : Type 0 where
     pub mid : Held S
-    pub start : MakesAll (if all then clearing k ∷ [] else []) from mid
+    pub start : MakesAll (if anew then clearing k ∷ [] else []) from mid
     pub rest : WritesRows k rows mid to
 
   -- the pass saved the stripe k, and the statements of just the rows that it handed out were made

@@ -8,7 +8,7 @@ ghost use Rattle.stripe_rule.specs.Gains.{Keeps};
 ghost use Rattle.bin_stripes.specs.Passes.{ServesSameMap, stripes_of};
 ghost use Rattle.bin_stripes.specs.Saves.{SavesStripe as HandsOutOf};
 ghost use Rattle.noted_bins.specs.Marks.{saved_in};
-ghost use Rattle.noted_bins.specs.Notes.{is_all, is_some};
+ghost use Rattle.noted_bins.specs.Notes.{is_anew, is_some};
 ghost use Rattle.map_keeper.specs.Saves.{IsWhole, MadeOnlySaves};
 ghost use Rattle.map_keeper.specs.Parts.{IsFurther, WouldStop, end_of};
 ghost use Rattle.map_keeper.specs.Written.{IsSavedSince, MakesAll, Pending, SavesBetween, SavesMap, SavesPart, SavesStripe, WouldCommit, WouldSave, WritesPart, WritesRound, WritesRows, may_part};
@@ -79,21 +79,21 @@ pub(crate) fn memory_fault(_: NoMemory) -> KeepFault
 fn leaves_noted(taken: Taken) -> bool
     ensures { result ≡ is_some taken }
 {
-    matches!(taken, Taken::Some)
+    matches!(taken, Taken::Begun | Taken::Some)
 }
 
-/// Tests whether this round is one that takes all entries of its stripe: the first, if all is taken anew.
+/// Tests whether this round begins anew: the first, if all is taken anew.
 fn is_first(anew: bool, round: u32) -> bool
     ensures { round ≡ 0 → result ≡ anew }
 {
     anew && round == 0
 }
 
-/// Tests whether a round took all entries of its stripe.
-fn takes_all(taken: Taken) -> bool
-    ensures { result ≡ is_all taken }
+/// Tests whether rows of the stripe that were handed out before a round count no more.
+fn begins_anew(taken: Taken) -> bool
+    ensures { result ≡ is_anew taken }
 {
-    matches!(taken, Taken::All)
+    matches!(taken, Taken::All | Taken::Begun)
 }
 
 /// Appends what a key has to a batch: its entry, or that it has none. The faults of `Batch::put`.
@@ -106,14 +106,14 @@ fn push(batch: &mut Batch, key: &[u8], entry: Option<SavedEntry<'_>>) -> Result<
     }
 }
 
-/// Takes what the file has of this stripe out of it, if the round took all entries of the stripe.
+/// Takes what the file has of this stripe out of it, if rows that were handed out before the round count no more.
 fn write_start<S: Alter>(stripe: u64, taken: Taken, save: &mut Save<'_, S>) -> Result<(), KeepFault>
     ensures same_reference { save.new.conn.ghost_name ≡ save.old.conn.ghost_name }
     ensures made { HasCleanDisk (state S.Store save.new.conn.now) → OnOk result
-        (MakesAll (state S.Store) (if is_all taken then clearing stripe ∷ [] else []) save.old.conn.now save.new.conn.now) }
+        (MakesAll (state S.Store) (if is_anew taken then clearing stripe ∷ [] else []) save.old.conn.now save.new.conn.now) }
     ensures kept { Survives (state S.Store save.old.conn.now) (state S.Store save.new.conn.now) (λ _. ⊥) }
 {
-    if !takes_all(taken) {
+    if !begins_anew(taken) {
         return Ok(());
     }
     save::start_anew(save, stripe)
@@ -206,7 +206,7 @@ impl BatchWriter {
         self.write_left(stripe, save)
     }
 
-    /// Writes the rows of a round into the save. If the round took all entries of the stripe, what the file has of it goes first.
+    /// Writes the rows of a round into the save. If rows before them count no more, what the file has of the stripe goes first.
     fn write_round<R: Wait, S: Alter>(
         &mut self,
         rt: &R,
@@ -217,7 +217,7 @@ impl BatchWriter {
     ) -> Result<(), KeepFault>
         ensures same_reference { save.new.conn.ghost_name ≡ save.old.conn.ghost_name }
         ensures made { HasCleanDisk (state S.Store save.new.conn.now) → OnOk result
-            (WritesRound (state S.Store) stripe (is_all taken) changes.now save.old.conn.now save.new.conn.now) }
+            (WritesRound (state S.Store) stripe (is_anew taken) changes.now save.old.conn.now save.new.conn.now) }
         ensures kept { Survives (state S.Store save.old.conn.now) (state S.Store save.new.conn.now) (λ _. ⊥) }
     {
         write_start(stripe, taken, save)?;
@@ -257,7 +257,7 @@ impl Taker {
         ensures same { ServesSameMap self.old.pass self.new.pass }
         ensures made { MadeOnlySaves self.old.pass.view self.new.pass.view }
         ensures elsewhere { (j : ℕ) → j ≢ stripe → Keeps self.old.pass.view self.new.pass.view j }
-        ensures anew { IfOk result (λ taken. IsTrue how.anew → is_all taken ≡ true) }
+        ensures anew { IfOk result (λ taken. IsTrue how.anew → is_anew taken ≡ true) }
         ensures handed { IfOk result (λ taken. HandsOutOf self.old.pass stripe [] self.new.changes taken self.new.pass) }
         ensures whole { IfOk result (λ taken. is_some taken ≡ false → IsWhole self.new.pass stripe) }
     {
