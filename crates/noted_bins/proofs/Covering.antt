@@ -11,8 +11,8 @@ use Rattle.bins.proofs.MapEdits.{total, antisymmetric}
 use Rattle.atomic_methods.specs.Methods.{with_value}
 use Rattle.timed_bins.specs.Deadlines.{TimedTable}
 use Rattle.noted_bins.specs.declared.taken.Taken.{Taken}
-use Rattle.noted_bins.specs.declared.taken.Taken.TheVariants.{All as AllTaken, Some as SomeTaken, Rest}
-use Rattle.noted_bins.specs.Notes.{Covers, CoversValues, IsKnown, NotesChanges, TakesChanges, is_all}
+use Rattle.noted_bins.specs.declared.taken.Taken.TheVariants.{All as AllTaken, Begun, Some as SomeTaken, Rest}
+use Rattle.noted_bins.specs.Notes.{Covers, CoversValues, IsKnown, NotesChanges, TakesChanges, is_anew}
 use Rattle.noted_bins.specs.Rows.{Row, Saved, has_row, put_rows, put_saved, row_of, same_key, value_in, values_of}
 use Rattle.noted_bins.proofs.KeyLemmas.{same_or_not}
 use Rattle.noted_bins.proofs.TableLemmas.{beside, here}
@@ -67,13 +67,14 @@ module _ (table : TimedTable) where
         | inr apart ↦ inr (beside kept row.0 (value_in row.1) key apart ∙ same)
       ]
 
--- what was saved before rows were put: nothing if all entries were taken
+-- what was saved before rows were put: nothing if all is taken anew
 abbrev pub kept_before : Taken → Table → Table
-kept_before taken kept = if is_all taken then map.empty else kept
+kept_before taken kept = if is_anew taken then map.empty else kept
 
 known_value : (taken : Taken) (noted : List ℕ → Bool) (table : TimedTable) (kept : Table) (key : List ℕ) → CoversValues noted table.table kept
     → IsKnown taken noted table key → map.get (kept_before taken kept) key ≡ map.get table.table key
 known_value AllTaken noted table kept key covers known = get-empty by_bytes key ∙ sym known
+known_value Begun noted table kept key covers known = get-empty by_bytes key ∙ sym known
 known_value SomeTaken noted table kept key covers known = covers key known
 known_value Rest noted table kept key covers known = covers key known
 
@@ -107,14 +108,15 @@ saved_there table (row ∷ rows) saved key present why =
     by_test false is (inr e) = inr e
 
 abbrev pub saved_before : Taken → (List ℕ → Saved) → List ℕ → Saved
-saved_before taken saved key = if is_all taken then None else saved key
+saved_before taken saved key = if is_anew taken then None else saved key
+
+none_there : (table : TimedTable) (key : List ℕ) → map.get table.table key ≡ None → row_of table key ≡ None
+none_there table key none = rw none refl
 
 known_saved : (taken : Taken) (noted : List ℕ → Bool) (table : TimedTable) (saved : List ℕ → Saved) (key : List ℕ) → Covers noted table saved
     → IsKnown taken noted table key → saved_before taken saved key ≡ row_of table key
 known_saved AllTaken noted table saved key covers known = sym (none_there table key known)
-  where
-    none_there : (table : TimedTable) (key : List ℕ) → map.get table.table key ≡ None → row_of table key ≡ None
-    none_there table key none = rw none refl
+known_saved Begun noted table saved key covers known = sym (none_there table key known)
 known_saved SomeTaken noted table saved key covers known = covers key known
 known_saved Rest noted table saved key covers known = covers key known
 

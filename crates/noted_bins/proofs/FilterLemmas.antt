@@ -98,14 +98,14 @@ pub forgotten : (table : TimedTable) (filter filter' : List Bool) (places : Plac
 forgotten table filter filter' places old new hands others = record { handed = hands.handed; known = known }
   where
     gone : (may : Bool) (value : Option (List ℕ)) (v : List ℕ) → value ≡ Some v → cond may (is_there value) false ≡ false → may ≡ false
-    gone true value v there no = absurd (let yes = ap is_there there in cc)
-    gone false value v there no = refl
+    gone true value v there e = absurd (let has = ap is_there there in cc)
+    gone false value v there e = refl
 
     known : (key : List ℕ) → is_filtered filter' table.table key ≡ false → is_filtered filter table.table key ≡ true → has_row hands.handed.rows key ≡ true
-    known key no yes =
-        let both = both_true (may_have filter key) (map.get table.table key) yes in
-        hands.known key yes (others key (gone (may_have filter' key) (map.get table.table key) both.1.0 both.1.1 no) both.0)
+    known key e was =
+        let both = both_true (may_have filter key) (map.get table.table key) was in
+        hands.known key was (others key (gone (may_have filter' key) (map.get table.table key) both.1.0 both.1.1 e) both.0)
 
 -- nothing was taken out
 pub kept_all : (table : TimedTable) (filter : List Bool) (old new : List Row) → HandsOutPresent table old new → HandsOutFiltered table filter filter old new
-kept_all table filter old new hands = record { handed = hands; known = λ key no yes. absurd (let e = sym no ∙ yes in cc) }
+kept_all table filter old new hands = record { handed = hands; known = λ key e was. absurd (let both = sym e ∙ was in cc) }

@@ -163,23 +163,23 @@ filtered_more old between new table changes more rows before hands all keys = re
 
 module _ (old between new : NotedKeys) (table : TimedTable) (first changes more : List Row) (before : (rows : List Row) × ((changes ≡ first ++ rows) × HandsOut old table rows between))
     (hands : HandsOutFiltered table between.filter new.filter changes more) (all : new.all ≡ between.all) (keys : new.keys ≡ between.keys) where
-  rows : List Row
+  abbrev rows : List Row
   rows = before.0 ++ hands.handed.rows
 
   added : more ≡ first ++ rows
   added = hands.handed.added ∙ ap (λ (rs : List Row). rs ++ hands.handed.rows) before.1.0 ∙ append_assoc first before.0 hands.handed.rows
 
-  after : HandsOut old table rows new
-  after = filtered_more old between new table changes more before.0 before.1.1 hands all keys
+  handed_out : HandsOut old table rows new
+  handed_out = filtered_more old between new table changes more before.0 before.1.1 hands all keys
 
   -- some may be left in the filter
   pub took_some : (rows : List Row) × ((more ≡ first ++ rows) × TakesChanges (is_noted old table.table) table SomeTaken rows (is_noted new table.table) table)
-  took_some = (rows, (added, some_left old new table rows after))
+  took_some = (rows, (added, some_left old new table rows handed_out))
 
   -- none is left
   pub took_rest : between.keys ≡ [] → new.filter ≡ []
       → (rows : List Row) × ((more ≡ first ++ rows) × TakesChanges (is_noted old table.table) table Rest rows (is_noted new table.table) table)
-  took_rest empty off = took_lists old new table first more (rows, (added, after)) (keys ∙ empty) off
+  took_rest empty off = took_lists old new table first more (rows, (added, handed_out)) (keys ∙ empty) off
 
 -- rows of some entries were handed out; each entry whose key is not noted is among them
 pub took_begun : (old full new : NotedKeys) (table : TimedTable) (changes more : List Row) → ((key : List ℕ) → may_have full.filter key ≡ true)

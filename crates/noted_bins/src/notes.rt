@@ -20,8 +20,8 @@ const PART: u64 = 1024;
 /// If the filter is on, the lists have room for so many times as many keys. If they are full then, all keys are noted.
 const MORE: u64 = 2;
 
-/// If the filter has more places than a save takes keys at once, the keys at so many parts of them are handed out one after the other.
-const PARTS: usize = 15;
+/// The keys of a filter are handed out in at most so many parts, since each time all keys of the bins are read.
+const PARTS: usize = 4;
 
 /// Places for the positions of keys that were noted last.
 const RECENT: usize = 256;
