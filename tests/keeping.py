@@ -337,6 +337,8 @@ def backed_up(given: argparse.Namespace, folder: Path) -> None:
 
 
 FEW_KEYS = [b"few %d" % number for number in range(8000)]
+# A stripe of so many entries is taken anew in rounds, and the last batch of each may not be full: four of at least 1,000 keys, and one more.
+ROUNDS = 5
 # Twice what the entries need, 65,536, and those of two saves.
 MOST_CHANGES = 4 * len(FEW_KEYS) + (1 << 16)
 
@@ -349,14 +351,14 @@ def sizes_of(file: Path) -> tuple[int, list[int]]:
 
 
 def appended(given: argparse.Namespace, folder: Path) -> None:
-    """A save appends just what changed since the last one, and all but the last batch of a stripe are full."""
-    file, stripes = folder / "map.db", 4
-    with kept(given.program, file, "--stripes", str(stripes), "--keep-seconds", "3600") as server, resp.Client(server.redis) as client:
+    """A save appends just what changed since the last one, and all but the last batch of a round are full."""
+    file = folder / "map.db"
+    with kept(given.program, file, "--stripes", "1", "--keep-seconds", "3600") as server, resp.Client(server.redis) as client:
         fill(server, {key: State(b"first") for key in FEW_KEYS})
         same("SAVE", client.ask("SAVE"), resp.OK)
         first, lengths = sizes_of(file)
         same("the changes after the first save", first, len(FEW_KEYS))
-        same("how many batches aren't full", sum(length < fmt.BATCH_BYTES for length in lengths) <= stripes < len(lengths), True)
+        same("how many batches aren't full", sum(length < fmt.BATCH_BYTES for length in lengths) <= ROUNDS < len(lengths), True)
         client.ask("SET", "new", "value")
         client.ask("DEL", FEW_KEYS[0])
         same("SAVE", client.ask("SAVE"), resp.OK)

@@ -168,7 +168,8 @@ impl<S: Alter + Drop> Keeper<S> {
         let conn = self.file.connection();
         let saved = self.taker.save_all(rt, shared, &had, conn);
         self.taker.pass.vouch();
-        self.in_file = saved?;
+        let in_file = saved?;
+        self.in_file = in_file;
         self.log = self.log.after(self.taker.rows, had.takes_anew);
         self.takes_anew = self.log.is_long();
         Ok(())

@@ -15,7 +15,7 @@ returns-clause-wrote g c clean =
     let w = c.save_all-saved.new.self.pass.view in
     let stripes = stripes_of c.args.shared.now.map.now in
     subst (λ (h : Held g.row.S.Denot). SavesMap (state g.S.Store) c.args.self.now.takes_anew v w stripes h c.save_all-saved.new.conn)
-    c.connection-conn.ensures.value (c.in_ok-saved.ensures.wrote clean)
+    c.connection-conn.ensures.value (c.in_ok-in_file.ensures.wrote clean)
 
 -- its entries are those that were handed out
 pub returns-clause-file : goal.returns-clause-file
@@ -29,7 +29,7 @@ returns-clause-file g c clean high step =
 pub returns-clause-content : goal.returns-clause-content
 returns-clause-content g c clean high step k q low one only =
     content_of c.save_all-saved.new.self.pass (state g.S.Store c.save_all-saved.new.conn) (stripes_of c.args.shared.now.map.now) q k c.vouch.ensures.sound one only
-    (c.in_ok-saved.ensures.whole k low) low (returns-clause-file g c clean high step)
+    (c.in_ok-in_file.ensures.whole k low) low (returns-clause-file g c clean high step)
 
 -- what a save would leave that is cut off
 pub returns-clause-found : goal.returns-clause-found
@@ -39,8 +39,8 @@ returns-clause-found g c high step trees would =
     subst (λ (id : TableId). IsSavedPartly pass (stripes_of id) (state g.S.Store c.args.self.now.file.conn) (with_trees (state g.S.Store c.args.self.now.file.conn) trees)) map
     (would_leave_stripes g.S.Store c.args.self.now.takes_anew c.args.self.now.taker.pass.view pass c.args.self.now.file.conn trees (rw map high) c.vouch.ensures.sound (rw map step) (rw map would))
 
-pub returns-in_err-saved-clause-found : goal.returns-in_err-saved-clause-found
-returns-in_err-saved-clause-found g c high step trees would =
+pub returns-in_err-in_file-clause-found : goal.returns-in_err-in_file-clause-found
+returns-in_err-in_file-clause-found g c high step trees would =
     let pass = c.save_all-saved.new.self.pass in
     let map = c.save_all-saved.ensures.same.map ∙ c.requires.map in
     subst (λ (id : TableId). IsSavedPartly pass (stripes_of id) (state g.S.Store c.args.self.now.file.conn) (with_trees (state g.S.Store c.args.self.now.file.conn) trees)) map
