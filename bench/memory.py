@@ -1,7 +1,8 @@
 #!/usr/bin/env python3
 """Tells how much resident memory an entry takes in the built mapd, and in Redis if it is installed: how much more a server has after twice
-as many entries. With --keep also in a mapd that keeps its map in a file, at most, while all entries are put again and again. By hand, not by
-the gate: python3 bench/memory.py [--mapd PROGRAM] [--entries N] [--key BYTES] [--value BYTES] [--keep]."""
+as many entries. With --keep also how much more a mapd has that keeps its map in a file, at most, while all entries are put again and again,
+with so many entries and with twice as many. Set MALLOC_MMAP_THRESHOLD_=131072 as the unit does. By hand, not by the gate:
+python3 bench/memory.py [--mapd PROGRAM] [--entries N] [--key BYTES] [--value BYTES] [--stripes N] [--keep]."""
 from __future__ import annotations
 
 import argparse
@@ -14,8 +15,9 @@ import threading
 import time
 from collections.abc import Callable, Iterator
 from pathlib import Path
+from typing import TypeVar
 
-Measure = Callable[[int, Callable[[int, int], None], int], int]
+Figure = TypeVar("Figure")
 ROOT = Path(__file__).resolve().parent.parent
 MAPD = ROOT / "crates/mapd/out/mapd"
 PATIENCE = 30
@@ -100,12 +102,13 @@ def most_while(process: int, work: Callable[[], None]) -> int:
     return most
 
 
-def each_changing(process: int, fill_from: Callable[[int, int], None], entries: int) -> int:
-    """As `each`, but by the most memory while all entries change."""
-    fill_from(0, entries)
-    before = most_while(process, lambda: fill_from(0, entries))
-    fill_from(entries, 2 * entries)
-    return (most_while(process, lambda: fill_from(0, 2 * entries)) - before) // entries
+def most_changing(process: int, fill_from: Callable[[int, int], None], entries: int) -> list[int]:
+    """The most bytes of memory while all of this many entries change, and while all of twice as many do."""
+    most = []
+    for filled in (entries, 2 * entries):
+        fill_from(filled - entries, filled)
+        most.append(most_while(process, lambda: fill_from(0, filled)))
+    return most
 
 
 def start_mapd(program: Path, *options: str) -> tuple[subprocess.Popen[str], int]:
@@ -138,6 +141,7 @@ def main() -> None:
     words.add_argument("--entries", type=int, default=1_000_000)
     words.add_argument("--key", type=int, default=8)
     words.add_argument("--value", type=int, default=8)
+    words.add_argument("--stripes", type=int, default=64)
     words.add_argument("--keep", action="store_true")
     given = words.parse_args()
 
@@ -145,7 +149,7 @@ def main() -> None:
         value = b"v" * given.value
         return (make(key_of(number, given.key), value) for number in range(first, end))
 
-    def tell(name: str, started: tuple[subprocess.Popen[str], int], make: Callable[[bytes, bytes], bytes], by: Measure = each) -> None:
+    def measured(started: tuple[subprocess.Popen[str], int], make: Callable[[bytes, bytes], bytes], by: Callable[..., Figure]) -> Figure:
         server, port = started
         hello, hello_answer, answer = (HELLO, HELLO_ANSWER, PUT_ANSWER) if make is put else (b"", 0, SET_ANSWER)
 
@@ -159,19 +163,24 @@ def main() -> None:
             filled = max(filled, end)
 
         try:
-            taken = by(server.pid, fill_from, given.entries)
-            print(f"{name}: {taken} bytes an entry of {given.key} and {given.value}, from {given.entries} to {2 * given.entries}")
+            return by(server.pid, fill_from, given.entries)
         finally:
             server.kill()
             server.wait()
 
-    tell("mapd", start_mapd(given.mapd), put)
-    if given.keep:
-        with tempfile.TemporaryDirectory() as folder:
-            tell("mapd --keep", start_mapd(given.mapd, "--keep", f"{folder}/map.db"), put, each_changing)
-    if shutil.which("redis-server"):
-        with tempfile.TemporaryDirectory() as folder:
-            tell("redis", start_redis(folder), redis_set)
+    def tell(name: str, taken: int) -> None:
+        print(f"{name}: {taken} bytes an entry of {given.key} and {given.value}, from {given.entries} to {2 * given.entries}")
+
+    options = "--stripes", str(given.stripes)
+    tell("mapd", measured(start_mapd(given.mapd, *options), put, each))
+    with tempfile.TemporaryDirectory() as folder:
+        if given.keep:
+            plain = measured(start_mapd(given.mapd, *options), put, most_changing)
+            kept = measured(start_mapd(given.mapd, *options, "--keep", f"{folder}/map.db"), put, most_changing)
+            more = [(one - other) / (1 << 20) for one, other in zip(kept, plain)]
+            print(f"mapd --keep: {more[0]:.1f} MiB more with {given.entries} entries, {more[1]:.1f} with twice as many")
+        if shutil.which("redis-server"):
+            tell("redis", measured(start_redis(folder), redis_set, each))
 
 
 if __name__ == "__main__":
