@@ -175,3 +175,7 @@ module _ (n k : ℕ) (v : View GhostAction) (noted noted' : List ℕ → Bool) (
   pub whole_left : is_some came ≡ false → (seen : List (Event GhostAction)) (actions : List Action) → seen ≡ seen_of v k ++ own_events v actions → actions ≡ action ∷ [] → Leaves n k seen (kept_in seen)
   whole_left whole seen actions is made = subst (λ es. Leaves n k es (kept_in es)) (sym (is ∙ ap (λ acts. seen_of v k ++ own_events v acts) made))
       (subst (λ (x : Table). Leaves n k events x) (sym (whole_is before noted' (kept_in events) (t.none whole) covered_after)) left_after)
+
+  -- the save leaves the table as it was
+  pub still_left : (seen : List (Event GhostAction)) (actions : List Action) → seen ≡ seen_of v k ++ own_events v actions → actions ≡ action ∷ [] → Leaves n k seen before.table
+  still_left seen actions is made = subst (λ es. Leaves n k es before.table) (sym (is ∙ ap (λ acts. seen_of v k ++ own_events v acts) made)) left_after

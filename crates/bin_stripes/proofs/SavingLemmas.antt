@@ -1,5 +1,5 @@
 -- Saves, from the bins to the seat, and from the seat to the pass.
-use Rattle.std.proofs.Common.{◌≡◌, ℕ, Bool, true≢false, List, [], ◌∷◌, Option, Some, None, option_map, All, refl, sym, ap, ◌∙◌, subst}
+use Rattle.std.proofs.Common.{◌≡◌, ℕ, ◌≤◌, Bool, true, true≢false, List, [], ◌∷◌, length, Option, Some, None, option_map, All, refl, sym, ap, ◌∙◌, subst}
 use Rattle.std.specs.Prelude.{IsSome}
 use Rattle.std.proofs.lemmas.List.Elements.{All-weaker}
 use Rattle.std.specs.FinMap as finmap
@@ -12,16 +12,17 @@ use Rattle.bins.specs.Table.{Table}
 use Rattle.atomic_methods.specs.Hashes.{stripe_of}
 use Rattle.timed_bins.specs.Deadlines.{TimedTable}
 use Rattle.noted_bins.specs.declared.taken.Taken.{Taken}
+use Rattle.noted_bins.specs.Notes.{is_all}
 use Rattle.noted_bins.specs.Rows.{Row, row_of, values_of}
 use Rattle.bin_stripes.specs.declared.ghost_action.GhostAction.{GhostAction}
 use Rattle.bin_stripes.specs.Actions.{Action, saved}
 use Rattle.bin_stripes.specs.Histories.{empty, does, Leaves}
-use Rattle.bin_stripes.specs.Saves.{keeps, kept_in, LeavesBins, SavesStripe}
+use Rattle.bin_stripes.specs.Saves.{keeps, kept_in, LeavesBins, SavesStripe, TakesAllEntries}
 use Rattle.bin_stripes.specs.Releasing.{Lets}
 use Rattle.bin_stripes.specs.Deeds.{SavesBy, LetsSave}
 use Rattle.bin_stripes.specs.Holding.{Rests}
 use Rattle.bin_stripes.specs.Passes.{PassState, stripes_of}
-use Rattle.bin_stripes.proofs.SaveLemmas.{whole_left}
+use Rattle.bin_stripes.proofs.SaveLemmas.{whole_left, still_left}
 use Rattle.bin_stripes.proofs.StripeTables.{IsWithin, leaves_within}
 use Rattle.bin_stripes.proofs.PassLemmas.{state}
 use Rattle.bin_stripes.proofs.TimedLemmas.{settles_at, makes_from}
@@ -41,6 +42,22 @@ lets_save content noted n k me me' before after b noted' old new came left is l 
       lets = record { actions = l.actions; may_be = by.1.1.1; releases = l.releases };
       whole = λ whole. whole_left n k me.0 (noted b) noted' before after rows came found covers t whole (seen_of me'.0 k) l.actions (ap (λ p. p.seen) l.releases.sets.here) by.1.1.1;
     }
+
+-- the table that the save leaves, all of which was taken if it has few enough entries
+pub lets_all : {B : Type 0} (content : B → Table) (noted : B → List ℕ → Bool) (n k most : ℕ) (me me' : Me (Option B) (View GhostAction)) (before after : TimedTable) (b : B) (noted' : List ℕ → Bool)
+    (old new : List Row) (came : Taken) → LeavesBins content noted n k (seen_of me.0 k) b → before.table ≡ content b → (length (finmap.entries (content b)) ≤ most → is_all came ≡ true)
+    → Lets (SavesBy old new came (noted b) before noted' after) n k me me' → TakesAllEntries n k most came me'.0
+lets_all content noted n k most me me' before after b noted' old new came left is all l = let by = l.may_be in
+    let found : Leaves n k (seen_of me.0 k) before.table = subst (λ (x : Table). Leaves n k (seen_of me.0 k) x) (sym is) left.table in
+    let covers = subst (λ (x : Table). Rattle.noted_bins.specs.Notes.CoversValues (noted b) x (kept_in (seen_of me.0 k))) (sym is) left.kept in (
+      before.table,
+      still_left n k me.0 (noted b) noted' before after by.0 came found covers by.1.1.0 (seen_of me'.0 k) l.actions (ap (λ p. p.seen) l.releases.sets.here) by.1.1.1,
+      (λ few. all (subst (λ (x : Table). length (finmap.entries x) ≤ most) is few)),
+    )
+
+-- the same of a view that is this one, in a map of as many stripes
+pub all_of : (n n' k most : ℕ) (came : Taken) (v v' : View GhostAction) → n ≡ n' → v ≡ v' → TakesAllEntries n k most came v → TakesAllEntries n' k most came v'
+all_of n n' k most came v v' same is all = subst (λ (z : ℕ × View GhostAction). TakesAllEntries z.0 k most came z.1) (λ i. (same i, is i)) all
 
 -- a row of an entry has a key of the stripe
 row_within : (n k : ℕ) (bins : TimedTable) → IsWithin n k bins.table → (row : Row) → row.1 ≡ row_of bins row.0 → IsSome row.1 → stripe_of n row.0 ≡ k

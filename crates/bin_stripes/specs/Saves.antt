@@ -1,14 +1,15 @@
 -- Saves of a stripe, and what the rows that they handed out come to.
-use Rattle.std.specs.Prelude.{◌≡◌, ℕ, Bool, false, if◌then◌else◌, IsSome, List, [], ◌∷◌, ◌++◌, All}
+use Rattle.std.specs.Prelude.{◌≡◌, ℕ, ◌≤◌, Bool, true, false, if◌then◌else◌, IsSome, List, [], ◌∷◌, ◌++◌, length, All}
 use Rattle.std.specs.FinMap as finmap
 use Rattle.stripe_rule.specs.declared.view.Event.{Event}
+use Rattle.stripe_rule.specs.declared.view.View.{View}
 use Rattle.stripe_rule.specs.Gains.{seen_of}
 use Rattle.bins.specs.Table.{Table}
 use Rattle.atomic_methods.specs.Hashes.{stripe_of}
 use Rattle.timed_bins.specs.Deadlines.{TimedTable}
 use Rattle.noted_bins.specs.declared.taken.Taken.{Taken}
 use Rattle.noted_bins.specs.Rows.{Row, row_of, values_of, put_rows}
-use Rattle.noted_bins.specs.Notes.{CoversValues, is_anew, is_some}
+use Rattle.noted_bins.specs.Notes.{CoversValues, is_all, is_anew, is_some}
 use Rattle.bin_stripes.specs.declared.ghost_action.GhostAction.{GhostAction}
 use Rattle.bin_stripes.specs.Actions.{Action, called, scanned, replaced, saved}
 use Rattle.bin_stripes.specs.Histories.{Leaves}
@@ -52,3 +53,8 @@ pub record SavesStripe (old : PassState) (k : ℕ) (before after : List Row) (ta
   pub present : All (λ row. row.1 ≡ row_of bins row.0) rows
   pub of_stripe : All (λ row. IsSome row.1 → stripe_of (stripes_of old.map) row.0 ≡ k) rows
   pub whole : is_some taken ≡ false → Leaves (stripes_of old.map) k (seen_of new.view k) (kept_in (seen_of new.view k))
+
+-- the events seen of the stripe k of this many leave some table, and if this has at most `most` entries, all of them were taken
+abbrev pub TakesAllEntries : ℕ → ℕ → ℕ → Taken → View GhostAction → Type 0
+TakesAllEntries stripes k most taken view =
+    (table : Table) × Leaves stripes k (seen_of view k) table × (length (finmap.entries table) ≤ most → is_all taken ≡ true)

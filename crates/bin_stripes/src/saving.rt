@@ -7,7 +7,7 @@ ghost use Rattle.bin_stripes.specs.Holding.{IsLaid, SeatHolds};
 ghost use Rattle.bin_stripes.specs.Invoked.{Makes};
 ghost use Rattle.bin_stripes.specs.Passes.{ServesSameMap, stripes_of};
 ghost use Rattle.bin_stripes.specs.Releasing.{Lets};
-ghost use Rattle.bin_stripes.specs.Saves.{SavesStripe};
+ghost use Rattle.bin_stripes.specs.Saves.{SavesStripe, TakesAllEntries};
 
 use crate::held::Nothing;
 use crate::map::StripedMap;
@@ -48,6 +48,7 @@ impl StripedMap {
         ensures same { ServesSameMap pass.old pass.new }
         ensures ok { IfOk result (λ taken. SavesStripe pass.old stripe changes.old changes.new taken pass.new) }
         ensures anew { IfOk result (λ taken. IsTrue how.anew → is_anew taken ≡ true) }
+        ensures all { IfOk result (λ taken. IsTrue how.anew → TakesAllEntries (stripes_of self.now) stripe how.most taken pass.new.view) }
         ensures err { OnErr result (Makes pass.old stripe [] pass.new × (changes.new ≡ changes.old)) }
     {
         let slot = stripe as usize;
@@ -99,6 +100,7 @@ fn make_save<B: NotedBins + Drop>(
     ensures ok { IfOk result (λ taken.
         LetsSave table.now.table_id.slots stripe changes.old changes.new taken seat.old.me seat.new.me) }
     ensures anew { IfOk result (λ taken. IsTrue how.anew → is_anew taken ≡ true) }
+    ensures all { IfOk result (λ taken. IsTrue how.anew → TakesAllEntries table.now.table_id.slots stripe how.most taken seat.new.me.0) }
     ensures err { OnErr result
         (Lets (λ actions. actions ≡ []) table.now.table_id.slots stripe seat.old.me seat.new.me
         × (changes.new ≡ changes.old)) }

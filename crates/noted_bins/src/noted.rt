@@ -1,9 +1,10 @@
 //! Bins with notes of which keys changed.
-ghost use Rattle.std.specs.Prelude.{◌≡◌, ◌++◌, [], true, false, List, IsTrue, IfOk, OnErr, option_copied};
+ghost use Rattle.std.specs.Prelude.{◌≡◌, ◌≤◌, ◌++◌, [], true, false, List, length, IsTrue, IfOk, OnErr, option_copied};
+ghost use Rattle.std.specs.FinMap as map;
 ghost use Rattle.atomic_methods.specs.Invocations.{get, invocation_of};
 ghost use Rattle.timed_bins.specs.Deadlines.{timed_table, MakesCall, RefusesCall, Expires};
 ghost use Rattle.noted_bins.specs.Hands.{HandsOut, LeavesSame};
-ghost use Rattle.noted_bins.specs.Notes.{NotesChanges, TakesChanges, is_anew, is_noted};
+ghost use Rattle.noted_bins.specs.Notes.{NotesChanges, TakesChanges, is_all, is_anew, is_noted};
 ghost use Rattle.noted_bins.specs.Rows.{Row};
 ghost use Rattle.noted_bins.specs.Taking.{HandsOutFiltered};
 
@@ -176,6 +177,7 @@ fn take_anew<T: TimedBins>(
         × TakesChanges (is_noted notes.old (T.table bins.now)) (timed_table (T.table bins.now) (T.deadline bins.now) (T.latest bins.now))
         taken rows (is_noted notes.new (T.table bins.now)) (timed_table (T.table bins.now) (T.deadline bins.now) (T.latest bins.now)))) }
     ensures anew { IfOk result (λ taken. is_anew taken ≡ true) }
+    ensures all { IfOk result (λ taken. length (map.entries (T.table bins.now)) ≤ most → is_all taken ≡ true) }
     ensures err { OnErr result ((changes.new ≡ changes.old) × (notes.new ≡ notes.old)) }
 {
     let entries = bins.count();

@@ -1,8 +1,9 @@
 //! Bins that note which keys changed.
-ghost use Rattle.std.specs.Prelude.{◌≡◌, ◌<◌, ◌^◌, ◌++◌, true, List, IsTrue, IfOk, OnErr, option_copied};
+ghost use Rattle.std.specs.Prelude.{◌≡◌, ◌<◌, ◌≤◌, ◌^◌, ◌++◌, true, List, length, IsTrue, IfOk, OnErr, option_copied};
+ghost use Rattle.std.specs.FinMap as map;
 ghost use Rattle.bins.specs.Replacements.{ReplacesEach};
 ghost use Rattle.timed_bins.specs.Deadlines.{timed_table, MakesCall, RefusesCall, Expires};
-ghost use Rattle.noted_bins.specs.Notes.{NotesChanges, TakesChanges, is_anew};
+ghost use Rattle.noted_bins.specs.Notes.{NotesChanges, TakesChanges, is_all, is_anew};
 ghost use Rattle.noted_bins.specs.Rows.{Row};
 
 use crate::changes::Changes;
@@ -69,6 +70,7 @@ pub trait NotedBins: TimedBins {
             × TakesChanges (noted self.old) (timed_table (Self.table self.old) (Self.deadline self.old) (Self.latest self.old))
             taken rows (noted self.new) (timed_table (Self.table self.new) (Self.deadline self.new) (Self.latest self.new)))) }
         ensures anew { IfOk result (λ taken. IsTrue anew → is_anew taken ≡ true) }
+        ensures all { IfOk result (λ taken. IsTrue anew → length (map.entries (Self.table self.old)) ≤ most → is_all taken ≡ true) }
         ensures err { OnErr result ((changes.new ≡ changes.old) × (noted self.new ≡ noted self.old)
             × (timed_table (Self.table self.new) (Self.deadline self.new) (Self.latest self.new)
             ≡ timed_table (Self.table self.old) (Self.deadline self.old) (Self.latest self.old))) };

@@ -11,7 +11,7 @@ use Rattle.bin_stripes.specs.Releasing.{Lets}
 use Rattle.bin_stripes.proofs.SaveLemmas.{save_made, left_more, same_covered}
 use Rattle.bin_stripes.proofs.Making.{nothing_made, nothing_hands_out}
 use Rattle.bin_stripes.proofs.StepLemmas.{found_bins, lets_from}
-use Rattle.bin_stripes.proofs.SavingLemmas.{lets_save}
+use Rattle.bin_stripes.proofs.SavingLemmas.{lets_save, lets_all}
 use Rattle.bin_stripes.proofs.saving.make_save.Goals as goal
 
 pub slot_mut-requires : goal.slot_mut-requires
@@ -62,6 +62,17 @@ returns-in-Ok-clause-ok g c = let me = c.args.seat.now.me in let n = c.args.tabl
     let out = (c.slot_mut.ensures.value ∙ ap (λ s. (k, s) ∷ rest c.args.seat.now.me.1) c.in-Some.is) in
     let found = found_bins g.B.Bins.table noted n k me b (rest me.1) c.requires.held out in
     lets_save g.B.Bins.table noted n k me c.let_go.new.seat.me (timed_of b) (timed_of after) b (noted after) c.args.changes.now c.take_changes.new.changes c.in-Ok.taken found refl
+    (subst (λ (x : g.row.B.Denot × List Row × g.row.B.Denot). Lets (SavesBy x.1 c.take_changes.new.changes c.in-Ok.taken (noted x.0) (timed_of x.0) (noted x.2) (timed_of x.2)) n k me c.let_go.new.seat.me)
+    (λ i. (c.of-before.ensures i, c.of-rows.ensures i, c.of-after.ensures i))
+    (lets_from n k _ me _ c.let_go.new.seat.me (rest me.1) (Some b) (Some after) refl out refl c.let_go.ensures.made))
+
+pub returns-in-Ok-clause-all : goal.returns-in-Ok-clause-all
+returns-in-Ok-clause-all g c asked = let me = c.args.seat.now.me in let n = c.args.table.now.table_id.slots in let k = c.args.stripe in
+    let timed_of : g.row.B.Denot → TimedTable = λ b. timed_table (g.B.Bins.table b) (g.B.TimedBins.deadline b) (g.B.TimedBins.latest b) in
+    let b = c.in-Some.bins in let after = c.take_changes.new.self in let noted = g.B.NotedBins.noted in
+    let out = (c.slot_mut.ensures.value ∙ ap (λ s. (k, s) ∷ rest c.args.seat.now.me.1) c.in-Some.is) in
+    let found = found_bins g.B.Bins.table noted n k me b (rest me.1) c.requires.held out in
+    lets_all g.B.Bins.table noted n k c.args.how.most me c.let_go.new.seat.me (timed_of b) (timed_of after) b (noted after) c.args.changes.now c.take_changes.new.changes c.in-Ok.taken found refl (c.in-Ok.ensures.all asked)
     (subst (λ (x : g.row.B.Denot × List Row × g.row.B.Denot). Lets (SavesBy x.1 c.take_changes.new.changes c.in-Ok.taken (noted x.0) (timed_of x.0) (noted x.2) (timed_of x.2)) n k me c.let_go.new.seat.me)
     (λ i. (c.of-before.ensures i, c.of-rows.ensures i, c.of-after.ensures i))
     (lets_from n k _ me _ c.let_go.new.seat.me (rest me.1) (Some b) (Some after) refl out refl c.let_go.ensures.made))

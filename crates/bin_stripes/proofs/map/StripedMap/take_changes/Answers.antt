@@ -1,7 +1,9 @@
 use Rattle.std.proofs.Common.{◌≡◌, sym, ap, ◌∙◌}
 use Rattle.bin_stripes.proofs.StepLemmas.{holds_after}
 use Rattle.bin_stripes.proofs.PassLemmas.{rests_of, if_ok_so}
-use Rattle.bin_stripes.proofs.SavingLemmas.{saves_stripe_of}
+use Rattle.stripe_rule.specs.Steps.{view_of}
+use Rattle.bin_stripes.specs.Passes.{stripes_of}
+use Rattle.bin_stripes.proofs.SavingLemmas.{saves_stripe_of, all_of}
 use Rattle.bin_stripes.proofs.map.StripedMap.take_changes.Goals as goal
 
 pub make_save-answer-requires-clause-held : goal.make_save-answer-requires-clause-held
@@ -17,3 +19,9 @@ returns-clause-ok g c = let id = c.pass.inside.known.table_id in let sid = c.sel
     if_ok_so _ _ c.make_save-answer.result (λ came l. saves_stripe_of id known.views me c.take-seat.ensures.2 k me' c.put.new.self.table_id c.put.new.self.views c.put.ensures.2 c.args.pass.now c.pass.view_is
     sid e _ _ held before after came rests c.take_stripe.ensures.took l)
     c.make_save-answer.ensures.ok
+
+pub returns-clause-all : goal.returns-clause-all
+returns-clause-all g c = let sid = c.self.inside.table.shared.table_id in let me' = c.make_save-answer.new.seat.me in
+    if_ok_so _ _ c.make_save-answer.result
+    (λ came all asked. all_of (stripes_of sid) (stripes_of c.args.self.now) c.args.stripe c.args.how.most came me'.0 _ (ap stripes_of c.self.view_is) (sym (ap view_of c.put.ensures.2)) (all asked))
+    c.make_save-answer.ensures.all
