@@ -4,11 +4,12 @@ ghost use Rattle.std.specs.Borrow.{sem};
 ghost use Rattle.sqlite.specs.Held.{state};
 ghost use Rattle.sqlite.specs.Files.{file_state};
 ghost use Rattle.sqlite.specs.State.{HasCleanDisk, IsUnchanged, Survives};
-ghost use Rattle.kept_file.specs.Content.{HasTables, IsJustOpened, ListsKept};
+ghost use Rattle.kept_file.specs.Content.{HasTables, ListsKept};
 ghost use Rattle.kept_file.specs.Lending.{LendsConnection};
 ghost use Rattle.kept_file.specs.Reading.{HasPrograms, HasScripts};
 
 use crate::batches;
+use crate::connecting::{OnDisk, connect};
 use crate::counts::{self, EntryCounts};
 use crate::fault::{KeepFault, read_fault, write_fault};
 use crate::query::{number_of, setting};
@@ -16,15 +17,11 @@ use crate::rows::{self, KeptProgram};
 use crate::save::{Save, make_tables};
 use crate::schema::FORMAT;
 use crate::tables::expect_kept_objects;
-use sqlite::{Alter, Connection, File, FileStore, Unknown};
+use sqlite::{Alter, Connection};
 use std::alloc::Global;
 use std::fs;
-use std::io::Read;
 
 pub(crate) const COUNT_OBJECTS: &str = "SELECT count(*) FROM sqlite_schema";
-
-/// The store of a file on the disk.
-pub type OnDisk = FileStore<File>;
 
 /// A file that is open. Nobody else can open it until it is dropped or closed.
 pub struct KeptFile<S: Alter> {
@@ -34,28 +31,6 @@ pub struct KeptFile<S: Alter> {
 impl<S: Alter + Drop> Drop for KeptFile<S> {
     fn drop(self) {
         let KeptFile { conn: _ } = self;
-    }
-}
-
-/// Tells whether a file begins as a SQLite database does.
-fn begins_as_database(rt: &HostRuntime, path: &str) -> bool {
-    let Ok(mut file) = fs::File::open(rt, path) else {
-        return false;
-    };
-    let mut first = [0u8; 16];
-    file.read_exact(&mut first).is_ok() && first == *b"SQLite format 3\0"
-}
-
-/// Opens the database at a path, or makes an empty one.
-fn connect(rt: &HostRuntime, path: &str) -> Result<Connection<OnDisk>, KeepFault>
-    ensures { IfOk result (λ conn. HasCleanDisk (file_state conn) → IsJustOpened (file_state conn)) }
-{
-    match Connection::open_from(rt, path, true, Unknown) {
-        Ok(conn) => Ok(conn),
-        Err((error, _)) => match read_fault(error) {
-            KeepFault::Damaged if !begins_as_database(rt, path) => Err(KeepFault::NotKept),
-            fault => Err(fault),
-        },
     }
 }
 

@@ -8,6 +8,7 @@
 
 pub mod batches;
 mod changes;
+mod connecting;
 mod counts;
 mod fault;
 mod file;
@@ -19,9 +20,10 @@ mod tables;
 
 pub use batches::{Batches, KeptBatch};
 pub use changes::{Batch, KeptChange, Mark};
+pub use connecting::OnDisk;
 pub use counts::EntryCounts;
 pub use fault::KeepFault;
-pub use file::{KeptFile, OnDisk};
+pub use file::KeptFile;
 pub use rows::KeptProgram;
 pub use save::Save;
 pub use schema::FORMAT;
