@@ -67,7 +67,7 @@ def in_help(program: Path) -> dict[str, Limits]:
 def in_manual() -> dict[str, Limits]:
     """What the page of the manual has; each option must be in its synopsis, too."""
     text = (ROOT / "docs/man/mapd.8").read_text(encoding="utf-8")
-    synopsis = set(re.findall(r"^\.(?:Op )?Fl Fl ([\w-]+) Ar", text.split(".Sh DESCRIPTION")[0], re.MULTILINE))
+    synopsis = set(re.findall(r"^\.(?:Op )?Fl Fl ([\w-]+)(?: Ar|$)", text.split(".Sh DESCRIPTION")[0], re.MULTILINE))
     found = {}
     for item in re.split(r"^\.It Fl ", text.split(".Sh EXIT STATUS")[0], flags=re.MULTILINE)[1:]:
         name = re.match(r"Fl ([\w-]+)", item)

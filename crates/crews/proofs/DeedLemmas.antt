@@ -1,5 +1,5 @@
 -- What commands and sweeps do, deed by deed.
-use Rattle.std.proofs.Common.{◌≡◌, inl, inr, ℕ, zero, suc, List, [], ◌∷◌, ◌++◌, length, if◌then◌else◌, Bool, true, false, Option, Some, None, Result, Ok, Err, refl, ap, subst, ◌∙◌}
+use Rattle.std.proofs.Common.{◌≡◌, inl, inr, ℕ, zero, suc, List, [], ◌∷◌, ◌++◌, length, if◌then◌else◌, Bool, true, false, ◌&&◌, Option, Some, None, Result, Ok, Err, refl, ap, subst, ◌∙◌}
 use Rattle.std.specs.Prelude.{replicate}
 use Rattle.verifier.specs.Checked.{Checked}
 use Rattle.atomic_methods.specs.Invocations.{Invocation, on_key, remove}
@@ -31,7 +31,8 @@ use Rattle.redis_service.specs.Answers.{AnswersKey, AnswersKeys, AnswersSetEach,
 use Rattle.redis_service.specs.Calls as calls
 use Rattle.redis_service.specs.Calls.{AnswersTimed, Finds, Removes, Each}
 use Rattle.redis_service.specs.Changes.{Step, stays, becomes, LosesTries, Ends, AnswersChange}
-use Rattle.redis_service.specs.Commands.{AnswersCommand, AnswersRead, read_of}
+use Rattle.redis_service.specs.Changing.{changes}
+use Rattle.redis_service.specs.Commands.{AnswersCommand, AnswersRead, AnswersUnless, read_of}
 use Rattle.redis_service.specs.Connections.{Greets, AnswersHello, LetsIn, LetsInBy, AnswersConnection}
 use Rattle.redis_service.specs.Programs.{AnswersTime, AnswersWith, AnswersIfFit, AnswersScript, AnswersArguments, AnswersLock, AnswersProgram, with_time, Looks as LooksFor}
 use Rattle.redis_service.specs.Saving.{AnswersServer}
@@ -386,26 +387,32 @@ module _ (now : ℕ) where
   words_did talk old (Ok asks) written next new answers = command_did talk old asks written next new answers
   words_did talk old (Err wrong) written next new answers = did_nothing old new (fault_same talk old wrong written next new answers)
 
-  said_did : (talk : TalkState) (old : PassState) (said : Said) (next : TalkState) (new : PassState) → AnswersSaid now talk old said next new → Did old new
-  said_did talk old said next new (inl (ignored, is, kept, same)) = did_nothing old new same
-  said_did talk old said next new (inr (words, spells, answers)) = words_did talk old (read_of now (is_authenticated talk) words) said.written next new answers.0
+  unless_did : (refused : Bool) (talk : TalkState) (old : PassState) (read : Result Asked Fault) (written : List ℕ) (next : TalkState) (new : PassState) → AnswersUnless now refused talk old read written next new → Did old new
+  unless_did true talk old read written next new (is, same, kept) = did_nothing old new same
+  unless_did false talk old read written next new answers = words_did talk old read written next new answers.0
 
-  all_did : (talk : TalkState) (old : PassState) (said : List Said) (next : TalkState) (new : PassState) → talks.AnswersEach now talk old said next new → Did old new
-  all_did talk old [] next new (kept, same) = did_nothing old new same
-  all_did talk old (one ∷ said) next new (mid, between, over, answers, more) =
-      did_then old between new (said_did talk old one mid between answers) (all_did mid between said next new more)
+  module _ (refuses : Bool) where
+    said_did : (talk : TalkState) (old : PassState) (said : Said) (next : TalkState) (new : PassState) → AnswersSaid now refuses talk old said next new → Did old new
+    said_did talk old said next new (inl (ignored, is, kept, same)) = did_nothing old new same
+    said_did talk old said next new (inr (words, spells, answers)) =
+        let read = read_of now (is_authenticated talk) words in unless_did (refuses && changes read) talk old read said.written next new answers
 
-  next_did : (talk : TalkState) (old : PassState) (rest whole : List ℕ) (next : TalkState) (new : PassState) → AnswersNext now talk old rest whole next new → Did old new
-  next_did talk old rest whole next new (inl (said, behind, mid, left, is, answers, over)) = said_did talk old said mid new answers
-  next_did talk old rest whole next new (inr (ending, ends, same)) = did_nothing old new same
+    all_did : (talk : TalkState) (old : PassState) (said : List Said) (next : TalkState) (new : PassState) → talks.AnswersEach now refuses talk old said next new → Did old new
+    all_did talk old [] next new (kept, same) = did_nothing old new same
+    all_did talk old (one ∷ said) next new (mid, between, over, answers, more) =
+        did_then old between new (said_did talk old one mid between answers) (all_did mid between said next new more)
 
-  -- the commands of a piece
-  pub piece_did : (talk : TalkState) (old : PassState) (piece written : List ℕ) (next : TalkState) (new : PassState) → talks.AnswersPiece now talk old piece written next new → Did old new
-  piece_did talk old piece written next new a = all_did _ old a.some.said a.last new a.some.each
+    next_did : (talk : TalkState) (old : PassState) (rest whole : List ℕ) (next : TalkState) (new : PassState) → AnswersNext now refuses talk old rest whole next new → Did old new
+    next_did talk old rest whole next new (inl (said, behind, mid, left, is, answers, over)) = said_did talk old said mid new answers
+    next_did talk old rest whole next new (inr (ending, ends, same)) = did_nothing old new same
 
-  -- those of a piece whose answers break off
-  pub part_did : (talk : TalkState) (old : PassState) (piece written : List ℕ) (next : TalkState) (new : PassState) → talks.BreaksPiece now talk old piece written next new → Did old new
-  part_did talk old piece written next new b = did_then old b.between new (all_did _ old b.some.said b.last b.between b.some.each) (next_did b.last b.between b.rest b.whole next new b.answers)
+    -- the commands of a piece
+    pub piece_did : (talk : TalkState) (old : PassState) (piece written : List ℕ) (next : TalkState) (new : PassState) → talks.AnswersPiece now refuses talk old piece written next new → Did old new
+    piece_did talk old piece written next new a = all_did _ old a.some.said a.last new a.some.each
+
+    -- those of a piece whose answers break off
+    pub part_did : (talk : TalkState) (old : PassState) (piece written : List ℕ) (next : TalkState) (new : PassState) → talks.BreaksPiece now refuses talk old piece written next new → Did old new
+    part_did talk old piece written next new b = did_then old b.between new (all_did _ old b.some.said b.last b.between b.some.each) (next_did b.last b.between b.rest b.whole next new b.answers)
 
   -- ---- a sweep
 

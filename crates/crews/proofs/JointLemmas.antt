@@ -18,7 +18,7 @@ use Rattle.crews.specs.declared.talk.Talk.{Talk}
 use Rattle.crews.specs.declared.talk.Talk.TheVariants.{Frames, Commands}
 use Rattle.crews.specs.Collected.{in_order}
 use Rattle.crews.specs.Deeds.{Deed, Does, done_on, MadeByDeeds, MadeForFrames, MadeForCommands, MadeInTurns, AreAnswered, Lives, SeesLives}
-use Rattle.crews.specs.Lives.{Known, known, known_of, Turn, Moves, exchanges_of}
+use Rattle.crews.specs.Lives.{Known, known, known_at, known_of, Turn, Moves, exchanges_of}
 use Rattle.crews.specs.Lives.Turn.{serves, sweeps}
 use Rattle.crews.specs.Partings.{AllSaidIn, LacksPiece, OwesLast, SaidInPart, OwesInAll, IsCutShort, EndsSo, SaysSo}
 use Rattle.crews.specs.Stations.{Station}
@@ -82,13 +82,13 @@ module _ (k : ℕ) where
   commands_made : (talk : TalkState) (exchange : Exchange Station) (next : TalkState) → AnswersCommands talk exchange next → Exchanged exchange
   commands_made talk exchange next a =
       let (made, is, leads) = did_makes (known exchange.old) (known exchange.new)
-      (piece_did a.time talk exchange.old.pass exchange.piece exchange.written next exchange.new.pass a.answers) a.map a.team in
+      (piece_did a.time a.refuses talk exchange.old.pass exchange.piece exchange.written next exchange.new.pass a.answers) a.map a.team in
       (made, inr (record { talk = talk; next = next; answers = inl a; calls = is }), leads)
 
   breaks_made : (talk : TalkState) (exchange : Exchange Station) (next : TalkState) → BreaksCommands talk exchange next → Exchanged exchange
   breaks_made talk exchange next a =
       let (made, is, leads) = did_makes (known exchange.old) (known exchange.new)
-      (part_did a.time talk exchange.old.pass exchange.piece exchange.written next exchange.new.pass a.breaks) a.map a.team in
+      (part_did a.time a.refuses talk exchange.old.pass exchange.piece exchange.written next exchange.new.pass a.breaks) a.map a.team in
       (made, inr (record { talk = talk; next = next; answers = inr a; calls = is }), leads)
 
   -- ---- the exchanges of a client
@@ -181,7 +181,7 @@ module _ (k : ℕ) where
         goes_on k old (known x.new) new here later (subst (λ (a : Known). Leads k a here (known x.new)) begins leads) more,
       )
   turns_make old (sweeps time pass ∷ turns) new (swept, moves) covers =
-      let mid : Known = record { pass = pass; team = old.team } in
+      let mid : Known = record old { pass = pass } in
       let (here, is, leads) = did_makes old mid (sweep_did time old.pass pass swept) (sweep_map time old.pass pass swept) refl in
       let (later, are, more) = turns_make mid turns new moves covers in
       (here ++ later, (here, later, is, are, refl), goes_on k old mid new here later leads more)
@@ -189,21 +189,27 @@ module _ (k : ℕ) where
   life_makes : (old : Known) (turns : List Turn) (new : Known) → Lives old turns new → Makes old (MadeInTurns k old turns) new
   life_makes old turns new lives = turns_make old turns new lives.moves (λ client. answered_covered (exchanges_of client turns) (lives.each client))
 
+-- it joins the passes of a crew, however strict the server is
+joins_at : (k : ℕ) (strict : Bool) (crew : Crew) (pass : PassState) → Joins k (known_of crew) pass → Joins k (known_at strict crew) pass
+joins_at k strict crew pass joins = record { mine = joins.mine; begins = joins.begins }
+
 -- what two crews made in their lives is in the pass that joins all their passes
 pub sees_lives : (one other : Crew) (left right joined : PassState)
     → ((k : ℕ) → k < stripes_of joined.map → Joins k (known_of one) left) → ((k : ℕ) → k < stripes_of joined.map → Joins k (known_of other) right)
     → one.pass.map ≡ joined.map → other.pass.map ≡ joined.map
     → IsJoined (stripes_of joined.map) left.view right.view joined.view → Sound (stripes_of joined.map) joined.view → SeesLives one other joined
 sees_lives one other left right joined joins joins_other map map_other is sound first second turns others k lives also of_first of_second lt =
-    let (made, are, leads) = life_makes k first turns (known_of one) lives in
-    let (later, are_later, more) = life_makes k second others (known_of other) also in (
+    let at_one = known_at first.is_strict one in
+    let at_other = known_at second.is_strict other in
+    let (made, are, leads) = life_makes k first turns at_one lives in
+    let (later, are_later, more) = life_makes k second others at_other also in (
       made,
       later,
       are,
       are_later,
-      sees_crews k first made (known_of one) second later (known_of other) left right joined
-          (leads (low first (known_of one) lives.numbers.map_is map, of_first)) (more (low second (known_of other) also.numbers.map_is map_other, of_second))
-          (joins k lt) (joins_other k lt) lt is sound,
+      sees_crews k first made at_one second later at_other left right joined
+          (leads (low first at_one lives.numbers.map_is map, of_first)) (more (low second at_other also.numbers.map_is map_other, of_second))
+          (joins_at k first.is_strict one left (joins k lt)) (joins_at k second.is_strict other right (joins_other k lt)) lt is sound,
     ) where
       low : (old new : Known) → new.pass.map ≡ old.pass.map → new.pass.map ≡ joined.map → k < stripes_of old.pass.map
       low old new same at = subst (λ (n : ℕ). k < n) (ap stripes_of (sym at ∙ same)) lt

@@ -11,13 +11,10 @@ use Rattle.crews.specs.Lives.{Known, known, Moves, KeepsTokens, KeepsNumbers, Tu
 use Rattle.crews.specs.Lives.Turn.{serves, sweeps}
 use Rattle.crews.specs.Turns.{Leads}
 
-abbrev known_of : PassState → List PassState → Known
-known_of pass team = record { pass = pass; team = team }
-
 pub moves_on : (a b c : Known) (xs ys : List Turn) → Moves a xs b → Moves b ys c → Moves a (xs ++ ys) c
 moves_on a b c [] ys one more = subst (λ (k : Known). Moves k ys c) one more
 moves_on a b c (serves client x ∷ xs) ys (begins, one) more = (begins, moves_on (known x.new) b c xs ys one more)
-moves_on a b c (sweeps time pass ∷ xs) ys (swept, one) more = (swept, moves_on (known_of pass a.team) b c xs ys one more)
+moves_on a b c (sweeps time pass ∷ xs) ys (swept, one) more = (swept, moves_on (record a { pass = pass }) b c xs ys one more)
 
 pub tokens_go_on : (a b c : KeptTokens) (xs ys : List (Exchange Station)) → KeepsTokens a xs b → KeepsTokens b ys c → KeepsTokens a (xs ++ ys) c
 tokens_go_on a b c [] ys one more = subst (λ (k : KeptTokens). KeepsTokens k ys c) one more
@@ -32,13 +29,13 @@ each_on a b c [] ys one more = subst (λ (k : TalkState). AnswersEach k ys c) on
 each_on a b c (x ∷ xs) ys (mid, first, one) more = (mid, first, each_on mid b c xs ys one more)
 
 pub numbers_stay : (a : Known) → KeepsNumbers a a
-numbers_stay a = record { map_is = refl; pass = refl; team = refl }
+numbers_stay a = record { map_is = refl; pass = refl; team = refl; strict = refl }
 
 pub numbers_go_on : (a b c : Known) → KeepsNumbers a b → KeepsNumbers b c → KeepsNumbers a c
-numbers_go_on a b c one more = record { map_is = more.map_is ∙ one.map_is; pass = more.pass ∙ one.pass; team = more.team ∙ one.team }
+numbers_go_on a b c one more = record { map_is = more.map_is ∙ one.map_is; pass = more.pass ∙ one.pass; team = more.team ∙ one.team; strict = more.strict ∙ one.strict }
 
-pub known_same : (a b : Known) → a.pass ≡ b.pass → a.team ≡ b.team → a ≡ b
-known_same a b pass team = ap (λ (p : PassState). known_of p a.team) pass ∙ ap (λ (t : List PassState). known_of b.pass t) team
+pub known_same : (a b : Known) → a.pass ≡ b.pass → a.team ≡ b.team → a.is_strict ≡ b.is_strict → a ≡ b
+known_same a b pass team strict = λ i. record { pass = pass i; team = team i; is_strict = strict i }
 
 -- ---- the turns of one client
 

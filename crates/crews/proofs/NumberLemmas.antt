@@ -31,12 +31,13 @@ pub record SameNumbers (old new : Station) : Type 0 where
   pub pass : new.pass.view.numbers ≡ old.pass.view.numbers
   pub team : team_numbers new.team ≡ team_numbers old.team
   pub registry : new.tokens.registry ≡ old.tokens.registry
+  pub strict : new.is_strict ≡ old.is_strict
 
 stays : (s : Station) → SameNumbers s s
-stays s = record { map = refl; pass = refl; team = refl; registry = refl }
+stays s = record { map = refl; pass = refl; team = refl; registry = refl; strict = refl }
 
 goes_on : (a b c : Station) → SameNumbers a b → SameNumbers b c → SameNumbers a c
-goes_on a b c one more = record { map = more.map ∙ one.map; pass = more.pass ∙ one.pass; team = more.team ∙ one.team; registry = more.registry ∙ one.registry }
+goes_on a b c one more = record { map = more.map ∙ one.map; pass = more.pass ∙ one.pass; team = more.team ∙ one.team; registry = more.registry ∙ one.registry; strict = more.strict ∙ one.strict }
 
 told_numbers : (from : PassState) (olds news : List PassState) → Pairwise (IsToldBy from) olds news → team_numbers news ≡ team_numbers olds
 told_numbers from [] [] told = refl
@@ -78,6 +79,7 @@ team_walks old new Walks keeps walks = record {
   pass = heard_numbers old.pass new.team new.pass walks.hears;
   team = keeps walks.told new.team walks.walks ∙ told_numbers old.pass old.team walks.told walks.tells;
   registry = ap (λ (t : KeptTokens). t.registry) walks.tokens;
+  strict = walks.strict;
 }
 
 once : (old new : Station) (response : Response) (responses : List Response) → AnswersOnce old response responses new → SameNumbers old new
@@ -91,11 +93,11 @@ called_numbers old new responses invocation (inr (refuses, is)) = refuses.nothin
 
 meets : (hello : Option Version) (old : Station) (asks : Asked) (responses : List Response) (new : Station) → CrewMeets hello old asks responses new → SameNumbers old new
 meets hello old (greeting version) responses new m = once old new _ responses m
-meets hello old (registration sizes bytes) responses new (inl (token, admits, is, same)) = subst (λ (s : Station). SameNumbers old s) (sym same) (record { map = refl; pass = refl; team = refl; registry = refl })
+meets hello old (registration sizes bytes) responses new (inl (token, admits, is, same)) = subst (λ (s : Station). SameNumbers old s) (sym same) (record { map = refl; pass = refl; team = refl; registry = refl; strict = refl })
 meets hello old (registration sizes bytes) responses new (inr (inl (token, admits, held, m))) = once old new _ responses m
 meets hello old (registration sizes bytes) responses new (inr (inr (inl (response, refuses, m)))) = once old new response responses m
 meets hello old (registration sizes bytes) responses new (inr (inr (inr m))) = once old new _ responses m
-meets hello old (call invocation) responses new m = record { map = m.same.map; pass = called_numbers old new responses invocation m.made; team = ap team_numbers m.team; registry = ap (λ (t : KeptTokens). t.registry) m.tokens }
+meets hello old (call invocation) responses new m = record { map = m.same.map; pass = called_numbers old new responses invocation m.made; team = ap team_numbers m.team; registry = ap (λ (t : KeptTokens). t.registry) m.tokens; strict = m.strict }
 meets hello old (walk kind program arg) responses new (inl (reply, walks, is)) = team_walks old new _ (λ before after walked. walked_numbers _ _ before after walked.walked) walks
 meets hello old (walk kind program arg) responses new (inr (walks, is)) = team_walks old new _ (λ before after walked. walked_numbers _ _ before after walked) walks
 meets hello old (replacement program arg) responses new (inl (reply, walks, is)) = team_walks old new _ (λ before after walked. walked_numbers _ _ before after walked.walked) walks
@@ -115,13 +117,22 @@ named_registry (Some number) old kept found finds = elim finds.grown [
 step : (hello : Option Version) (old : Station) (request : Request) (responses : List Response) (new : Station) → CrewServes hello old request responses new → SameNumbers old new
 step hello old request responses new (inl answers) =
     let same = meets hello (keeping old answers.kept) (asked (λ _. answers.found) request) responses new answers.meets in
-    record { map = same.map; pass = same.pass; team = same.team; registry = same.registry ∙ named_registry (number_in request) old.tokens answers.kept answers.found answers.finds }
+    record { map = same.map; pass = same.pass; team = same.team; registry = same.registry ∙ named_registry (number_in request) old.tokens answers.kept answers.found answers.finds; strict = same.strict }
 step hello old request responses new (inr (names, refused)) = once old new _ responses refused
 
 -- a session's passes carry the numbers that they carried
 pub ended_same : (old : Station) (end : SessionEnd) (read : List ℕ) (last : ℕ) (written : List ℕ) (new : Station) → Ended CrewServes old end read last written new → SameNumbers old new
 ended_same old end read last written new ended =
     session_leads CrewServes (λ _ _ _ _ _ _. no_numbers) (λ a _ b. SameNumbers a b) stays (λ a b c _ _ one more. goes_on a b c one more) step old new read written last end ended
+
+pub station_same : (a b : Station) → a.pass ≡ b.pass → a.team ≡ b.team → a.tokens ≡ b.tokens → a.is_strict ≡ b.is_strict → a ≡ b
+station_same a b pass team tokens strict = λ i. record { pass = pass i; team = team i; tokens = tokens i; is_strict = strict i }
+
+-- the same session, of states that are these
+pub ended_as : (old before : Station) (end : SessionEnd) (read : List ℕ) (last : ℕ) (written : List ℕ) (new after : Station) → old ≡ before → after ≡ new
+    → Ended CrewServes old end read last written new → Ended CrewServes before end read last written after
+ended_as old before end read last written new after begins ends ended =
+    subst (λ (x : Station × Station). Ended CrewServes x.0 end read last written x.1) (λ i. (begins i, sym ends i)) ended
 
 in_order_same : (hello : Option Version) (old new : Station) (responses : List Response) (requests : List Request) → AnswersInOrder CrewServes hello old requests responses new → SameNumbers old new
 in_order_same hello old new responses requests chain =

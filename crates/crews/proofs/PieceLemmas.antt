@@ -1,5 +1,5 @@
 -- What a piece of a client's bytes adds to what the client was told.
-use Rattle.std.proofs.Common.{◌≡◌, ◌⊎◌, ℕ, ◌≤◌, List, [], ◌∷◌, ◌++◌, length, true, false, Option, Some, None, Result, Ok, Err, OnOk, MatchResult, flat_map, refl, sym, ap, subst, ◌∙◌, append-nil, append_assoc, inl, inr}
+use Rattle.std.proofs.Common.{◌≡◌, ◌⊎◌, ℕ, ◌≤◌, List, [], ◌∷◌, ◌++◌, length, Bool, true, false, IsTrue, Option, Some, None, Result, Ok, Err, OnOk, MatchResult, flat_map, refl, sym, ap, subst, ◌∙◌, append-nil, append_assoc, inl, inr}
 use Rattle.std.proofs.lemmas.List.Concat.{flat_map-append}
 use Rattle.bin_stripes.specs.Passes.{PassState, ServesSameMap}
 use Rattle.client_protocol.specs.declared.fault.ProtocolFault.{ProtocolFault}
@@ -87,7 +87,7 @@ failed_of (open_at hello rest) fault is = absurd cc
 failed_of (failed other) fault is = cc
 
 numbers_of : (old new : Station) → SameNumbers old new → KeepsNumbers (known old) (known new)
-numbers_of old new same = record { map_is = same.map; pass = same.pass; team = same.team }
+numbers_of old new same = record { map_is = same.map; pass = same.pass; team = same.team; strict = same.strict }
 
 -- a refusal was written there, or a front of it
 pub refusal_told : (number : ℕ) (end result : SessionEnd) (a b : OwedState) → (result ≡ end) ⊎ (result ≡ session.WriteFailed) → (result ≡ end → TakesBytes (sink_of a) (sink_of b) (refusal number))
@@ -251,7 +251,7 @@ module _ (password : Option (List ℕ)) where
 
   -- the passes had the client's tokens meanwhile
   pub says_around : (s0 s1 s2 s3 : Station) (t0 t1 t2 : KeptTokens) (next : Talk) (leaving : Option Parting) (exchanges : List (Exchange Station)) (read said owed more : List ℕ)
-      → s1 ≡ record { pass = s0.pass; team = s0.team; tokens = t0 } → s3 ≡ record { pass = s2.pass; team = s2.team; tokens = t1 } → t2 ≡ s2.tokens
+      → s1 ≡ record s0 { tokens = t0 } → s3 ≡ record s2 { tokens = t1 } → t2 ≡ s2.tokens
       → SaysMore password (known s1) (known s2) exchanges s1.tokens s2.tokens next leaving read said owed more → SaysMore password (known s0) (known s3) exchanges t0 t2 next leaving read said owed more
   says_around s0 s1 s2 s3 t0 t1 t2 next leaving exchanges read said owed more lent back left m =
       subst (λ (s : Station). SaysMore password (known s0) (known s) exchanges t0 t2 next leaving read said owed more) (sym back)
@@ -261,40 +261,40 @@ module _ (password : Option (List ℕ)) where
   -- ---- commands
 
   -- what the talk made of a piece
-  pub commands_say : {U : Type 0} (taken : Result U TalkEnd) (tokens : KeptTokens) (team : List PassState) (old new : PassState) (time : ℕ) (talk next : TalkState) (piece : List ℕ) (leaving : Option Parting) (a b c : OwedState) → 1 ≤ length piece
-      → talk.is_over ≡ false → ServesSameMap old new → new.view.numbers ≡ old.view.numbers
-      → OnOk taken ((next.is_over ≡ false) × ((written : List ℕ) × TakesBytes (sink_of a) (sink_of b) written × redis.AnswersPiece time talk old piece written next new))
-      → (taken ≡ Err talk_end.Over → (next.is_over ≡ true) × ((written : List ℕ) × TakesBytes (sink_of a) (sink_of b) written × redis.AnswersPiece time talk old piece written next new))
+  pub commands_say : {U : Type 0} (taken : Result U TalkEnd) (tokens : KeptTokens) (team : List PassState) (strict : Bool) (old new : PassState) (time : ℕ) (refuses : Bool) (talk next : TalkState) (piece : List ℕ) (leaving : Option Parting) (a b c : OwedState) → 1 ≤ length piece
+      → talk.is_over ≡ false → (IsTrue refuses → IsTrue strict) → ServesSameMap old new → new.view.numbers ≡ old.view.numbers
+      → OnOk taken ((next.is_over ≡ false) × ((written : List ℕ) × TakesBytes (sink_of a) (sink_of b) written × redis.AnswersPiece time refuses talk old piece written next new))
+      → (taken ≡ Err talk_end.Over → (next.is_over ≡ true) × ((written : List ℕ) × TakesBytes (sink_of a) (sink_of b) written × redis.AnswersPiece time refuses talk old piece written next new))
       → (taken ≡ Err talk_end.NoMemory → (next ≡ talk) × (new ≡ old) × (sink_of b ≡ sink_of a))
-      → (taken ≡ Err talk_end.WriteFailed → (written : List ℕ) × TakesThenFails (sink_of a) (sink_of b) written × redis.BreaksPiece time talk old piece written next new)
+      → (taken ≡ Err talk_end.WriteFailed → (written : List ℕ) × TakesThenFails (sink_of a) (sink_of b) written × redis.BreaksPiece time refuses talk old piece written next new)
       → MatchResult taken (λ _. (leaving ≡ None) × (c ≡ b)) (λ end. LeavesTalk end leaving b.rest c.rest)
       → (exchanges : List (Exchange Station)) (read said : List ℕ) → SaysSo password None (Commands talk) exchanges read said
-      → SaysMore password (record { pass = old; team = team }) (record { pass = new; team = team }) exchanges tokens tokens (Commands next) leaving (read ++ piece) said a.rest c.rest
-  commands_say (Ok u) tokens team old new time talk next piece leaving a b c some begins same numbers (goes_on, (written, takes, answers)) over lacks breaks (is, still) exchanges read said (opened, all) =
-      let s0 : Station = record { pass = old; team = team; tokens = tokens } in
-      let s1 : Station = record { pass = new; team = team; tokens = tokens } in
+      → SaysMore password (record { pass = old; team = team; is_strict = strict }) (record { pass = new; team = team; is_strict = strict }) exchanges tokens tokens (Commands next) leaving (read ++ piece) said a.rest c.rest
+  commands_say (Ok u) tokens team strict old new time refuses talk next piece leaving a b c some begins may same numbers (goes_on, (written, takes, answers)) over lacks breaks (is, still) exchanges read said (opened, all) =
+      let s0 : Station = record { pass = old; team = team; tokens = tokens; is_strict = strict } in
+      let s1 : Station = record { pass = new; team = team; tokens = tokens; is_strict = strict } in
       let xs = exchanges ++ exchange s0 piece written s1 ∷ [] in
-      only_answered s0 s1 (Commands next) piece written leaving a.rest c.rest exchanges read said (record { map_is = same.map; pass = numbers; team = refl }) refl
+      only_answered s0 s1 (Commands next) piece written leaving a.rest c.rest exchanges read said (record { map_is = same.map; pass = numbers; team = refl; strict = refl }) refl
       (ap (λ (o : OwedState). o.rest) still ∙ takes.0)
       (subst (λ (l : Option Parting). SaysSo password l (Commands next) xs (read ++ piece) (said ++ written)) (sym is)
-      (goes_on, said_more (Commands talk) (Commands next) (exchange s0 piece written s1) exchanges read said (commands_more (exchange s0 piece written s1) talk next exchanges (record { goes_on = begins; map = same.map; team = refl; tokens = refl; time = time; answers = answers })) all))
-  commands_say (Err talk_end.Over) tokens team old new time talk next piece leaving a b c some begins same numbers ok over lacks breaks (is, still) exchanges read said (opened, all) =
+      (goes_on, said_more (Commands talk) (Commands next) (exchange s0 piece written s1) exchanges read said (commands_more (exchange s0 piece written s1) talk next exchanges (record { goes_on = begins; map = same.map; team = refl; tokens = refl; strict = refl; time = time; refuses = refuses; may = may; answers = answers })) all))
+  commands_say (Err talk_end.Over) tokens team strict old new time refuses talk next piece leaving a b c some begins may same numbers ok over lacks breaks (is, still) exchanges read said (opened, all) =
       let (ended, (written, takes, answers)) = over refl in
-      let s0 : Station = record { pass = old; team = team; tokens = tokens } in
-      let s1 : Station = record { pass = new; team = team; tokens = tokens } in
+      let s0 : Station = record { pass = old; team = team; tokens = tokens; is_strict = strict } in
+      let s1 : Station = record { pass = new; team = team; tokens = tokens; is_strict = strict } in
       let xs = exchanges ++ exchange s0 piece written s1 ∷ [] in
-      only_answered s0 s1 (Commands next) piece written leaving a.rest c.rest exchanges read said (record { map_is = same.map; pass = numbers; team = refl }) refl
+      only_answered s0 s1 (Commands next) piece written leaving a.rest c.rest exchanges read said (record { map_is = same.map; pass = numbers; team = refl; strict = refl }) refl
       (still ∙ takes.0)
       (subst (λ (l : Option Parting). SaysSo password l (Commands next) xs (read ++ piece) (said ++ written)) (sym is)
-      (Commands next, refl, ended, said_more (Commands talk) (Commands next) (exchange s0 piece written s1) exchanges read said (commands_more (exchange s0 piece written s1) talk next exchanges (record { goes_on = begins; map = same.map; team = refl; tokens = refl; time = time; answers = answers })) all))
-  commands_say (Err talk_end.NoMemory) tokens team old new time talk next piece leaving a b c some begins same numbers ok over lacks breaks tells exchanges read said (opened, all) =
+      (Commands next, refl, ended, said_more (Commands talk) (Commands next) (exchange s0 piece written s1) exchanges read said (commands_more (exchange s0 piece written s1) talk next exchanges (record { goes_on = begins; map = same.map; team = refl; tokens = refl; strict = refl; time = time; refuses = refuses; may = may; answers = answers })) all))
+  commands_say (Err talk_end.NoMemory) tokens team strict old new time refuses talk next piece leaving a b c some begins may same numbers ok over lacks breaks tells exchanges read said (opened, all) =
       let (unchanged, still, kept) = lacks refl in
       let unwritten : b.rest ≡ a.rest = some_same b.rest a.rest (ap (λ (s : SinkState). s.held) kept) in
-      let before : Known = record { pass = old; team = team } in
-      subst (λ (t : TalkState). SaysMore password before (record { pass = new; team = team }) exchanges tokens tokens (Commands t) leaving (read ++ piece) said a.rest c.rest) (sym unchanged)
-      (subst (λ (p : PassState). SaysMore password before (record { pass = p; team = team }) exchanges tokens tokens (Commands talk) leaving (read ++ piece) said a.rest c.rest) (sym still)
-      (lacking (record { pass = old; team = team; tokens = tokens }) (Commands talk) piece leaving a.rest c.rest exchanges read said some (subst (λ (t : List ℕ). TellsLast no_memory_line session.NoMemory leaving t c.rest) unwritten tells) opened all))
-  commands_say (Err talk_end.WriteFailed) tokens team old new time talk next piece leaving a b c some begins same numbers ok over lacks breaks (is, still) exchanges read said (opened, all) =
+      let before : Known = record { pass = old; team = team; is_strict = strict } in
+      subst (λ (t : TalkState). SaysMore password before (record { pass = new; team = team; is_strict = strict }) exchanges tokens tokens (Commands t) leaving (read ++ piece) said a.rest c.rest) (sym unchanged)
+      (subst (λ (p : PassState). SaysMore password before (record { pass = p; team = team; is_strict = strict }) exchanges tokens tokens (Commands talk) leaving (read ++ piece) said a.rest c.rest) (sym still)
+      (lacking (record { pass = old; team = team; tokens = tokens; is_strict = strict }) (Commands talk) piece leaving a.rest c.rest exchanges read said some (subst (λ (t : List ℕ). TellsLast no_memory_line session.NoMemory leaving t c.rest) unwritten tells) opened all))
+  commands_say (Err talk_end.WriteFailed) tokens team strict old new time refuses talk next piece leaving a b c some begins may same numbers ok over lacks breaks (is, still) exchanges read said (opened, all) =
       let (written, takes, broke) = breaks refl in
-      broken (record { pass = old; team = team; tokens = tokens }) (record { pass = new; team = team; tokens = tokens }) (Commands talk) (Commands next) piece written leaving a.rest c.rest exchanges read said
-      (record { map_is = same.map; pass = numbers; team = refl }) refl (record { goes_on = begins; map = same.map; team = refl; tokens = refl; time = time; breaks = broke }) refl is (still ∙ takes.0) all
+      broken (record { pass = old; team = team; tokens = tokens; is_strict = strict }) (record { pass = new; team = team; tokens = tokens; is_strict = strict }) (Commands talk) (Commands next) piece written leaving a.rest c.rest exchanges read said
+      (record { map_is = same.map; pass = numbers; team = refl; strict = refl }) refl (record { goes_on = begins; map = same.map; team = refl; tokens = refl; strict = refl; time = time; refuses = refuses; may = may; breaks = broke }) refl is (still ∙ takes.0) all

@@ -1,5 +1,5 @@
 -- Clients that leave their seats, have turns, and take seats.
-use Rattle.std.proofs.Common.{◌≡◌, ℕ, ◌+◌, ◌<◌, List, [], ◌∷◌, ◌++◌, take, drop, Option, Some, None, refl, sym, ap, subst, ◌∙◌, append-nil, append_assoc, take-append-drop, slice_index_or, slice_set, IsSome, inl, inr, arith}
+use Rattle.std.proofs.Common.{◌≡◌, ℕ, ◌+◌, ◌<◌, List, [], ◌∷◌, ◌++◌, false, take, drop, Option, Some, None, refl, sym, ap, subst, ◌∙◌, append-nil, append_assoc, take-append-drop, slice_index_or, slice_set, IsSome, inl, inr, arith}
 use Rattle.std.proofs.lemmas.Bool.{cases_eq}
 use Rattle.std.proofs.KnownBytes.{Appends-nil, Appends-kept, Appends-trans, Consumes-nil, Consumes-kept}
 use Rattle.std.specs.Io.KnownBytes.{Appends, Consumes, Keeps}
@@ -337,11 +337,11 @@ module _ {C : Type 0} (state : C → ChannelState) (gave : PassState → C → P
 
   -- the worker sweeps: the pass knows more, and nothing else changes
   pub has_swept : (old : Known) (turns : List Turn) (mid new : Known) (n time : ℕ) (seats : Slab (Client C)) → Sweeps time mid.pass new.pass → ServesSameMap mid.pass new.pass
-      → new.pass.view.numbers ≡ mid.pass.view.numbers → new.team ≡ mid.team → IsAttended state gave registry password old turns mid n seats → (more : List Turn) × IsAttended state gave registry password old (turns ++ more) new n seats
-  has_swept old turns mid new n time seats swept same numbers team (life, seated) = (
+      → new.pass.view.numbers ≡ mid.pass.view.numbers → new.team ≡ mid.team → new.is_strict ≡ mid.is_strict → IsAttended state gave registry password old turns mid n seats → (more : List Turn) × IsAttended state gave registry password old (turns ++ more) new n seats
+  has_swept old turns mid new n time seats swept same numbers team strict (life, seated) = (
     more,
     (
-      lives_swept old turns mid new n time moves (record { map_is = same.map; pass = numbers; team = ap team_numbers team }) life,
+      lives_swept old turns mid new n time moves (record { map_is = same.map; pass = numbers; team = ap team_numbers team; strict = strict }) life,
       seated_on old turns more mid new n seats moves (λ i client is. exchanges_swept client.number turns time new.pass) seated,
     ),
   ) where
@@ -349,7 +349,7 @@ module _ {C : Type 0} (state : C → ChannelState) (gave : PassState → C → P
     more = sweeps time new.pass ∷ []
 
     moves : Moves mid more new
-    moves = (swept, known_same new (record { pass = new.pass; team = mid.team }) refl team)
+    moves = (swept, known_same new (record mid { pass = new.pass }) refl team strict)
 
   -- a client comes, and takes a seat
   pub one_comes : (old : Known) (turns : List Turn) (new : Known) (n number : ℕ) (seats room after : Slab (Client C)) (seat : ℕ) (came : Arrival C) (now : C) (talk : Talk) (client : Client C) → gave new.pass came.channel came.protocol
@@ -375,7 +375,7 @@ module _ {C : Type 0} (state : C → ChannelState) (gave : PassState → C → P
   told_none : (pass : PassState) (came : Arrival C) (now next : C) → gave pass came.channel came.protocol → state now ≡ state came.channel → Keeps (state now).left (state next).left → Keeps (state now).held (state next).held
       → HasParted state gave pass next (no_tokens registry) NotKept
   told_none pass came now next given same unread untold =
-      let here : Known = record { pass = pass; team = [] } in
+      let here : Known = record { pass = pass; team = []; is_strict = false } in
       record {
         old = here;
         turns = [];
@@ -397,7 +397,7 @@ module _ {C : Type 0} (state : C → ChannelState) (gave : PassState → C → P
   pub turned_away : (pass : PassState) (came : Arrival C) (now next : C) (sent : Sent) (bytes : List ℕ) → gave pass came.channel came.protocol → state now ≡ state came.channel → bytes ≡ not_kept_told came.protocol
       → Sends (state now) (state next) sent bytes → HasParted state gave pass next (no_tokens registry) NotKept
   turned_away pass came now next (Took n) bytes given same line (some, within, kept, taken) =
-      let here : Known = record { pass = pass; team = [] } in
+      let here : Known = record { pass = pass; team = []; is_strict = false } in
       record {
         old = here;
         turns = [];

@@ -110,7 +110,7 @@ names_not_found hello old request number response responses kept call names is (
     names_one hello old request number None kept responses (keeping old kept) call names finds
     (subst (λ (a : Asked). CrewMeets hello (keeping old kept) a responses (keeping old kept)) (sym (unknown_asked request number names)) (is ∙ ap (λ (r : Response). r ∷ []) unknown_is, refl))
 names_not_found hello old request number response responses kept call names is (inr (refused, same)) =
-    inr (rw (number_of_call request call ∙ names) refl, (is ∙ ap (λ (r : Response). r ∷ []) refused, ap (λ (t : KeptTokens). keeping old t) same))
+    inr (inl (rw (number_of_call request call ∙ names) refl), (is ∙ ap (λ (r : Response). r ∷ []) refused, ap (λ (t : KeptTokens). keeping old t) same))
 
 -- nor is the one that a walk names
 pub walk_not_found : (hello : Option Version) (old : Station) (number : ℕ) (asks : Checked → Asked) (response : Response) (responses : List Response) (kept : KeptTokens)
@@ -131,7 +131,7 @@ with_number : (hello : Option Version) (old : Station) (request : Request) (numb
     → AsksWithProgram hello old number asks responses new → CrewServes hello old request responses new
 with_number hello old request number asks responses new is same (inl answers) =
     inl (record { found = answers.found; kept = answers.kept; finds = rw is answers.finds; meets = subst (λ (a : Asked). CrewMeets hello (keeping old answers.kept) a responses new) (sym (same answers.found)) answers.meets })
-with_number hello old request number asks responses new is same (inr refused) = inr (rw is refl, refused)
+with_number hello old request number asks responses new is same (inr refused) = inr (inl (rw is refl), refused)
 
 -- a walk runs the program that its request names
 pub serves_search : (hello : Option Version) (old : Station) (request : Request) (number : ℕ) (arg : Option (List ℕ)) (threshold : ℕ) (responses : List Response) (new : Station)

@@ -1,5 +1,5 @@
 -- What contracts see of a crew.
-use Rattle.std.specs.Prelude.{◌≡◌, ℕ, All, List, map, Option, Some}
+use Rattle.std.specs.Prelude.{◌≡◌, ℕ, false, All, List, map, Option, Some}
 use Rattle.atomic_table.specs.Seated.{TableId}
 use Rattle.bin_stripes.specs.Passes.{PassState}
 use Rattle.crews.specs.declared.crew.Crew.{Crew}
@@ -11,9 +11,9 @@ pub record IsCrewOf (id : TableId) (crew : Crew) : Type 0 where
   pub pass : crew.pass.map ≡ id
   pub team : All (λ member. member.map ≡ id) crew.team.passes.items
 
--- what its passes know, with these tokens
+-- what its passes know, with these tokens, and it is not strict
 abbrev pub station : Crew → KeptTokens → Station
-station crew tokens = record { pass = crew.pass; team = crew.team.passes.items; tokens = tokens }
+station crew tokens = record { pass = crew.pass; team = crew.team.passes.items; tokens = tokens; is_strict = false }
 
 -- the numbers that a state's passes carry, in order
 abbrev pub team_numbers : List PassState → List (List ℕ)

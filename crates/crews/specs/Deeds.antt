@@ -1,5 +1,5 @@
 -- What crews make in their lives, turn by turn, and what two of them have in common once their passes are joined.
-use Rattle.std.specs.Prelude.{◌≡◌, ◌⊎◌, ◌==◌, if◌then◌else◌, ℕ, ◌<◌, ◌≤◌, List, [], ◌∷◌, ◌++◌, Option}
+use Rattle.std.specs.Prelude.{◌≡◌, ◌⊎◌, ◌==◌, if◌then◌else◌, ℕ, ◌<◌, ◌≤◌, Bool, List, [], ◌∷◌, ◌++◌, Option}
 use Rattle.std.proofs.Common.{inl, inr}
 use Rattle.std.proofs.lemmas.Bool.{cases_lt}
 use Rattle.bin_stripes.specs.Actions.{Action}
@@ -18,7 +18,7 @@ use Rattle.crews.specs.declared.clients.Protocol.{Protocol}
 use Rattle.crews.specs.declared.crew.Crew.{Crew}
 use Rattle.crews.specs.declared.talk.Talk.{Talk}
 use Rattle.crews.specs.Collected.{in_order}
-use Rattle.crews.specs.Lives.{Known, known, known_of, Turn, Moves, exchanges_of, KeepsNumbers, Life, HasLived}
+use Rattle.crews.specs.Lives.{Known, known, known_at, Turn, Moves, exchanges_of, KeepsNumbers, Life, HasLived}
 use Rattle.crews.specs.Lives.Turn.{serves, sweeps}
 use Rattle.crews.specs.Partings.{SaysSo}
 use Rattle.crews.specs.Stations.{Station}
@@ -88,7 +88,7 @@ module _ (k : ℕ) where
   -- what the passes know after a turn
   abbrev pub after_turn : Known → Turn → Known
   after_turn old (serves client exchange) = known exchange.new
-  after_turn old (sweeps time pass) = record { pass = pass; team = old.team }
+  after_turn old (sweeps time pass) = record old { pass = pass }
 
   -- in turns, one after the other
   abbrev pub MadeInTurns : Known → List Turn → List CrewEvent → Type 0
@@ -118,10 +118,10 @@ module _ {C : Type 0} (state : C → ChannelState) (gave : PassState → C → P
       let (came, now, tokens, talk, owed, leaving, come, stands) = life.each client within in
       inr (password, leaving, talk, stands.read, stands.written ++ owed.rest, stands.says)
 
-  abbrev pub lives_of : (old new : Crew) (lived : HasLived state gave registry password old new) → Lives (known_of old) lived.0 (known_of new)
-  lives_of old new (turns, clients, life) = record {
+  abbrev pub lives_of : (old new : Crew) (strict : Bool) (lived : HasLived state gave registry password strict old new) → Lives (known_at strict old) lived.0 (known_at strict new)
+  lives_of old new strict (turns, clients, life) = record {
     moves = life.moves;
-    each = λ client. answered_in (known_of old) turns (known_of new) clients client life (cases_lt client clients);
+    each = λ client. answered_in (known_at strict old) turns (known_at strict new) clients client life (cases_lt client clients);
     numbers = life.numbers;
   }
 
@@ -129,7 +129,7 @@ module _ {C : Type 0} (state : C → ChannelState) (gave : PassState → C → P
 -- they had made before and what they made in their turns, each event once; and what each crew made in the order of its turns
 abbrev pub SeesLives : Crew → Crew → PassState → Type 0
 SeesLives one other joined =
-    (first second : Known) (turns others : List Turn) (k : ℕ) → Lives first turns (known_of one) → Lives second others (known_of other)
+    (first second : Known) (turns others : List Turn) (k : ℕ) → Lives first turns (known_at first.is_strict one) → Lives second others (known_at second.is_strict other)
     → IsOfOneMap first → IsOfOneMap second → k < stripes_of joined.map
     → (made : List CrewEvent) × (later : List CrewEvent) × MadeInTurns k first turns made × MadeInTurns k second others later
     × SeesCrews k first made second later joined

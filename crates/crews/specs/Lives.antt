@@ -1,5 +1,5 @@
 -- A worker's whole life: the turns of all its clients and its own sweeps in one chain, and of each client what was read of it and written to it.
-use Rattle.std.specs.Prelude.{◌≡◌, ◌==◌, ℕ, ◌<◌, ◌≤◌, List, [], ◌∷◌, ◌++◌, Option, None, if◌then◌else◌}
+use Rattle.std.specs.Prelude.{◌≡◌, ◌==◌, ℕ, ◌<◌, ◌≤◌, Bool, false, List, [], ◌∷◌, ◌++◌, Option, None, if◌then◌else◌}
 use Rattle.std.specs.Io.KnownBytes.{Appends, Consumes}
 use Rattle.bin_stripes.specs.Passes.{PassState}
 use Rattle.program_registry.specs.declared.registry.Registry.{Registry}
@@ -16,16 +16,21 @@ use Rattle.crews.specs.Stations.{KeptTokens, no_tokens, Station}
 use Rattle.crews.specs.Partings.{PartsSo, SaysSo}
 use Rattle.crews.specs.Talks.{protocol_of}
 
--- what a crew's passes know
+-- what a crew's passes know, and whether its server is strict
 pub record Known : Type 0 where
   pub pass : PassState
   pub team : List PassState
+  pub is_strict : Bool
 
 abbrev pub known : Station → Known
-known station = record { pass = station.pass; team = station.team }
+known station = record { pass = station.pass; team = station.team; is_strict = station.is_strict }
 
 abbrev pub known_of : Crew → Known
-known_of crew = record { pass = crew.pass; team = crew.team.passes.items }
+known_of crew = record { pass = crew.pass; team = crew.team.passes.items; is_strict = false }
+
+-- the same at a server that is strict, or not
+abbrev pub known_at : Bool → Crew → Known
+known_at strict crew = record { pass = crew.pass; team = crew.team.passes.items; is_strict = strict }
 
 -- a turn of the worker
 pub data Turn : Type 0 where
@@ -39,18 +44,19 @@ pub data Turn : Type 0 where
 abbrev pub Moves : Known → List Turn → Known → Type 0
 Moves old [] new = new ≡ old
 Moves old (serves client exchange ∷ turns) new = (known exchange.old ≡ old) × Moves (known exchange.new) turns new
-Moves old (sweeps time pass ∷ turns) new = Sweeps time old.pass pass × Moves (record { pass = pass; team = old.team }) turns new
+Moves old (sweeps time pass ∷ turns) new = Sweeps time old.pass pass × Moves (record old { pass = pass }) turns new
 
 -- each exchange begins with the tokens that the one before it left
 abbrev pub KeepsTokens : KeptTokens → List (Exchange Station) → KeptTokens → Type 0
 KeepsTokens old [] new = new ≡ old
 KeepsTokens old (exchange ∷ exchanges) new = (exchange.old.tokens ≡ old) × KeepsTokens exchange.new.tokens exchanges new
 
--- the passes carry the numbers that they carried, and are of the map that they were of
+-- the passes carry the numbers that they carried, and are of the map that they were of; the server is as strict as it was
 pub record KeepsNumbers (old new : Known) : Type 0 where
   pub map_is : new.pass.map ≡ old.pass.map
   pub pass : new.pass.view.numbers ≡ old.pass.view.numbers
   pub team : team_numbers new.team ≡ team_numbers old.team
+  pub strict : new.is_strict ≡ old.is_strict
 
 -- the exchanges with one client
 abbrev pub exchanges_of : ℕ → List Turn → List (Exchange Station)
@@ -127,6 +133,7 @@ module _ {C : Type 0} (state : C → ChannelState) (gave : PassState → C → P
     pub no_other : (client : ℕ) → clients ≤ client → exchanges_of client turns ≡ []
     pub numbers : KeepsNumbers old new
 
-  -- turns with its clients and sweeps, and nothing else, moved the crew; the tokens of all clients are of this registry
-  abbrev pub HasLived : Crew → Crew → Type 0
-  HasLived old new = (turns : List Turn) × (clients : ℕ) × Life (known_of old) turns (known_of new) clients
+  -- turns with its clients and sweeps, and nothing else, moved the crew of a server that is strict, or not; the tokens of all clients are of
+  -- this registry
+  abbrev pub HasLived : Bool → Crew → Crew → Type 0
+  HasLived strict old new = (turns : List Turn) × (clients : ℕ) × Life (known_at strict old) turns (known_at strict new) clients

@@ -1,5 +1,5 @@
 -- What posts come to. No public contract cites this.
-use Rattle.std.specs.Prelude.{ℕ, List, Option, Some}
+use Rattle.std.specs.Prelude.{ℕ, Bool, List, Option, Some}
 use Rattle.atomic_table.specs.Seated.{TableId}
 use Rattle.bin_stripes.specs.Passes.{PassState}
 use Rattle.program_registry.specs.declared.registry.Registry.{Registry}
@@ -11,12 +11,12 @@ use Rattle.crews.specs.Arrivals.{CountGoes}
 use Rattle.crews.specs.Crews.{IsCrewOf, CarriesSame}
 use Rattle.crews.specs.Lives.{HasLived}
 
-module _ {C P : Type 0} (state : C → ChannelState) (gave : PassState → C → Protocol → Type 0) (registry : Registry) (password : Option (List ℕ)) (there : P → ℕ → Type 0) (is_over : P → Type 0) where
+module _ {C P : Type 0} (state : C → ChannelState) (gave : PassState → C → Protocol → Type 0) (registry : Registry) (password : Option (List ℕ)) (strict : Bool) (there : P → ℕ → Type 0) (is_over : P → Type 0) where
   -- a post before and after its crew attended clients of this map
   pub record IsAttendedPost (id : TableId) (old new : Post P Crew) : Type 0 where
     pub map : IsCrewOf id new.crew
     pub same : CarriesSame old.crew new.crew
-    pub lived : HasLived state gave registry password old.crew new.crew
+    pub lived : HasLived state gave registry password strict old.crew new.crew
     pub count : CountGoes there old.clients 0 new.clients 0
     pub over : is_over new.clients
 

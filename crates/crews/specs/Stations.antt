@@ -1,5 +1,5 @@
 -- What a session of a crew goes through.
-use Rattle.std.specs.Prelude.{List, []}
+use Rattle.std.specs.Prelude.{Bool, List, []}
 use Rattle.bin_stripes.specs.Passes.{PassState}
 use Rattle.program_registry.specs.declared.registry.ProgramToken.{ProgramToken}
 use Rattle.program_registry.specs.declared.registry.Registry.{Registry}
@@ -17,8 +17,10 @@ tokens_of registry items = record { registry = registry; items = items }
 abbrev pub no_tokens : Registry → KeptTokens
 no_tokens registry = tokens_of registry []
 
--- a state between two requests: what the crew's pass and those of its team know, and the tokens that the session keeps
+-- a state between two requests: what the crew's pass and those of its team know, the tokens that the session keeps, and whether the
+-- crew's server is strict: then it may refuse a change of a present key too
 pub record Station : Type 0 where
   pub pass : PassState
   pub team : List PassState
   pub tokens : KeptTokens
+  pub is_strict : Bool

@@ -1,6 +1,6 @@
 -- How a crew answers a request, and what its passes then know. The methods are those of Java SE 17's ConcurrentMap; numbers and
 -- refusals are this map's profile.
-use Rattle.std.specs.Prelude.{◌≡◌, ◌⊎◌, ◌<◌, ℕ, List, [], ◌∷◌, ◌++◌, length, Option, None, Some, IfSome, IsSome, MatchOption, All, slice_index_or}
+use Rattle.std.specs.Prelude.{◌≡◌, ◌⊎◌, ◌<◌, ℕ, List, [], ◌∷◌, ◌++◌, length, Option, None, Some, IfSome, IsSome, IsTrue, MatchOption, All, slice_index_or}
 use Rattle.bpf_model.specs.declared.input.Sizes.{Sizes}
 use Rattle.bpf_model.specs.Meaning.{IsSafe}
 use Rattle.stripe_rule.specs.Gains.{Hears}
@@ -19,7 +19,7 @@ use Rattle.client_protocol.specs.declared.response.Response.TheVariants as tell
 use Rattle.program_registry.specs.declared.registry.ProgramToken.{ProgramToken}
 use Rattle.program_registry.specs.Tokens.{program_of, token_number}
 use Rattle.sessions.specs.Answering.{walk_responses}
-use Rattle.sessions.specs.Asking.{Asked, asked, named, greeting, registration, call, walk, replacement, count, unknown, with_program, response_to, Admits, RefusesProgram, AnswersOnce, TellsNoMemory}
+use Rattle.sessions.specs.Asking.{Asked, asked, named, greeting, registration, call, walk, replacement, count, unknown, with_program, may_change, response_to, Admits, RefusesProgram, AnswersOnce, TellsNoMemory}
 use Rattle.crews.specs.Stations.{KeptTokens, Station}
 
 -- the one token has the other's number only if it stands for the same program
@@ -63,7 +63,7 @@ IsNotFound old number response kept =
 
 -- the state with these tokens
 abbrev pub keeping : Station → KeptTokens → Station
-keeping station kept = record { pass = station.pass; team = station.team; tokens = kept }
+keeping station kept = record station { tokens = kept }
 
 -- the number of the program that a request names, if it names one
 abbrev pub number_in : Request → Option ℕ
@@ -96,6 +96,7 @@ pub record TeamWalks (old : Station) (Walks : List PassState → List PassState 
   pub hears : HearsEach old.pass new.team new.pass
   pub map : All (λ member. member.map ≡ old.pass.map) new.team
   pub tokens : new.tokens ≡ old.tokens
+  pub strict : new.is_strict ≡ old.is_strict
 
 -- the team walks and has this answer; or it is refused memory, and what it did then is by `Stops`
 abbrev pub CrewAnswersWalk : Station → (List PassState → List PassState → WalkReply → Type 0)
@@ -109,6 +110,7 @@ CrewAnswersWalk old Replies Stops responses new =
 pub record CrewAnswersCall (old : Station) (invocation : Invocation) (responses : List Response) (new : Station) : Type 0 where
   pub team : new.team ≡ old.team
   pub tokens : new.tokens ≡ old.tokens
+  pub strict : new.is_strict ≡ old.is_strict
   pub same : ServesSameMap old.pass new.pass
   pub made : ((reply : Reply) × Calls old.pass invocation reply new.pass × (responses ≡ response_to reply ∷ []))
       ⊎ (RefusesCall old.pass invocation new.pass × (responses ≡ tell.Refused 9 0 ∷ []))
@@ -163,7 +165,12 @@ pub record CrewAnswers (hello : Option Version) (old : Station) (request : Reque
   pub finds : MatchOption (number_in request) (kept ≡ old.tokens) (λ number. Finds old.tokens number found kept)
   pub meets : CrewMeets hello (keeping old kept) (asked (λ _. found) request) responses new
 
--- so it is; or it names a program, and memory for the token that is to be kept is refused
+-- the request may be refused whatever the passes know: it names a program, for whose token there may be no memory; or it may change the
+-- map, and the server is strict
+abbrev pub MayBeRefused : Station → Request → Type 0
+MayBeRefused old request = IsSome (number_in request) ⊎ (IsTrue old.is_strict × IsTrue (may_change request))
+
+-- so it is; or it is refused, as if there were no memory
 abbrev pub CrewServes : Option Version → Station → Request → List Response → Station → Type 0
 CrewServes hello old request responses new =
-    CrewAnswers hello old request responses new ⊎ (IsSome (number_in request) × TellsNoMemory old responses new)
+    CrewAnswers hello old request responses new ⊎ (MayBeRefused old request × TellsNoMemory old responses new)

@@ -1,5 +1,5 @@
 -- How a client speaks, in frames or in commands, and how its exchanges go on in either.
-use Rattle.std.specs.Prelude.{◌≡◌, ◌≢◌, ℕ, true, false, List, [], ◌∷◌, Option, None}
+use Rattle.std.specs.Prelude.{◌≡◌, ◌≢◌, ℕ, Bool, true, false, IsTrue, List, [], ◌∷◌, Option, None}
 use Rattle.client_protocol.specs.declared.limits.Version.{Version}
 use Rattle.client_protocol.specs.declared.fault.ProtocolFault.{ProtocolFault}
 use Rattle.client_protocol.specs.Frames.Held.{open_at, failed}
@@ -51,14 +51,17 @@ IsOver (Frames held) = ⊥
 IsOver (Commands talk) = talk.is_over ≡ true
 
 -- the commands of the exchange's piece are answered at some time, on what the crew's pass knows, which stays one of its map; its team and
--- the client's tokens stay as they were
+-- the client's tokens stay as they were. Only a strict server refuses changes then
 pub record AnswersCommands (talk : TalkState) (exchange : Exchange Station) (next : TalkState) : Type 0 where
   pub goes_on : talk.is_over ≡ false
   pub map : exchange.new.pass.map ≡ exchange.old.pass.map
   pub team : exchange.new.team ≡ exchange.old.team
   pub tokens : exchange.new.tokens ≡ exchange.old.tokens
+  pub strict : exchange.new.is_strict ≡ exchange.old.is_strict
   pub time : ℕ
-  pub answers : redis.AnswersPiece time talk exchange.old.pass exchange.piece exchange.written next exchange.new.pass
+  pub refuses : Bool
+  pub may : IsTrue refuses → IsTrue exchange.old.is_strict
+  pub answers : redis.AnswersPiece time refuses talk exchange.old.pass exchange.piece exchange.written next exchange.new.pass
 
 -- so are some, and the answer to one breaks off
 pub record BreaksCommands (talk : TalkState) (exchange : Exchange Station) (next : TalkState) : Type 0 where
@@ -66,8 +69,11 @@ pub record BreaksCommands (talk : TalkState) (exchange : Exchange Station) (next
   pub map : exchange.new.pass.map ≡ exchange.old.pass.map
   pub team : exchange.new.team ≡ exchange.old.team
   pub tokens : exchange.new.tokens ≡ exchange.old.tokens
+  pub strict : exchange.new.is_strict ≡ exchange.old.is_strict
   pub time : ℕ
-  pub breaks : redis.BreaksPiece time talk exchange.old.pass exchange.piece exchange.written next exchange.new.pass
+  pub refuses : Bool
+  pub may : IsTrue refuses → IsTrue exchange.old.is_strict
+  pub breaks : redis.BreaksPiece time refuses talk exchange.old.pass exchange.piece exchange.written next exchange.new.pass
 
 -- the exchanges answered commands, one after the other
 abbrev pub AnswersEach : TalkState → List (Exchange Station) → TalkState → Type 0

@@ -49,6 +49,7 @@ impl<'a, 'r> Room<'a, 'r> {
         requires desk { self.old.serving.pass.map ≡ self.old.desk }
         ensures desk { self.new.desk ≡ self.old.desk }
         ensures team { self.new.serving.team ≡ self.old.serving.team }
+        ensures strict { self.new.serving.is_strict ≡ self.old.serving.is_strict }
         ensures same { ServesSameMap self.old.serving.pass self.new.serving.pass }
         ensures numbers { self.new.serving.pass.view.numbers ≡ self.old.serving.pass.view.numbers }
         ensures sweeps { Sweeps self.old.now self.old.serving.pass self.new.serving.pass }
@@ -164,7 +165,11 @@ pub fn answer_commands<'a, 'r, H: Wait>(
         → SaysMore password (known room.old.serving) (known room.new.serving) exchanges tokens tokens
         (Talk.Commands talk.new) result (read ++ take room.old.count room.old.piece) said owed.old.rest owed.new.rest }
 {
-    let moment = Moment { rt, time: room.now };
+    let moment = Moment {
+        rt,
+        time: room.now,
+        refuses: room.serving.refuses_changes(),
+    };
     let piece = &room.piece[..room.count];
     let taken = room
         .serving

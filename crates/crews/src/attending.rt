@@ -6,7 +6,7 @@ ghost use Rattle.devices.specs.Channels.{Sends};
 ghost use Rattle.server_state.specs.Passwords.{lent};
 ghost use Rattle.crews.specs.Arrivals.{CountGoes};
 ghost use Rattle.crews.specs.Crews.{IsCrewOf, CarriesSame};
-ghost use Rattle.crews.specs.Lives.{Known, known, known_of, Turn, HasLived};
+ghost use Rattle.crews.specs.Lives.{Known, known, known_at, Turn, HasLived};
 ghost use Rattle.crews.specs.Partings.{not_kept_told};
 ghost use Rattle.crews.specs.Stations.{no_tokens};
 ghost use Rattle.crews.specs.Seats.{HasNone, IsAttended, IsClient};
@@ -321,7 +321,7 @@ fn begun<'a, 'r, H, C: Channel + Drop, G>(
 ) -> Attendant<'a, 'r, C>
     requires { IsCrewOf worker.now.map.now crew }
     ensures number { result.room.number ≡ crew.worker }
-    ensures knows { known result.room.serving ≡ known_of crew }
+    ensures knows { known result.room.serving ≡ known_at state.now.is_strict crew }
     ensures desk { result.room.desk ≡ worker.now.map.now }
     ensures came { result.came ≡ 0 }
     ensures empty { result.seats.slots ≡ [] }
@@ -337,6 +337,7 @@ fn begun<'a, 'r, H, C: Channel + Drop, G>(
         pass,
         team: team.into_passes(),
         tokens: Vec::new(worker.alloc),
+        strict: state.if_strict(),
     };
     Attendant {
         alloc: worker.alloc,
@@ -373,7 +374,7 @@ pub fn attend<'a, 'r, H: Threads + Wait + Sync, C: Channel + Drop, P: Clients<C>
 ) -> Crew
     requires crew { IsCrewOf worker.now.map.now crew }
     requires serves { P.serves worker.now.map.now }
-    ensures life { HasLived C.state P.gave worker.now.registry.now state.now.password crew result }
+    ensures life { HasLived C.state P.gave worker.now.registry.now state.now.password state.now.is_strict crew result }
     ensures there { CountGoes (P.there worker.now.registry.now) clients.old 0 clients.new 0 }
     ensures over { P.over clients.new }
     ensures crew { IsCrewOf worker.now.map.now result }

@@ -73,6 +73,7 @@ pub fn session_with_tokens<
         pass,
         team: team.into_passes(),
         tokens: Vec::new(worker.alloc),
+        strict: None,
     };
     let end = run_session(
         worker.rt,

@@ -95,7 +95,7 @@ pub fn attend_each<
     requires serves { P.serves worker.now.map.now }
     ensures same { IfOk result (λ back. Pairwise (λ old new. CarriesSame old.crew new.crew) posts.items back.items) }
     ensures map { IfOk result (λ back. All (λ post. IsCrewOf worker.now.map.now post.crew) back.items) }
-    ensures lived { IfOk result (λ back. Pairwise (λ old new. HasLived C.state P.gave worker.now.registry.now state.now.password old.crew new.crew) posts.items back.items) }
+    ensures lived { IfOk result (λ back. Pairwise (λ old new. HasLived C.state P.gave worker.now.registry.now state.now.password state.now.is_strict old.crew new.crew) posts.items back.items) }
     ensures there { IfOk result (λ back. Pairwise (λ old new. CountGoes (P.there worker.now.registry.now) old.clients 0 new.clients 0) posts.items back.items) }
     ensures over { IfOk result (λ back. All (λ post. P.over post.clients) back.items) }
 {
@@ -106,7 +106,7 @@ pub fn attend_each<
     let seats = seated(posts, seats);
     let call = move |_: usize, seat: &mut Option<Post<P, Crew>>|
         requires { IsSomeAnd seat.old (λ post. IsCrewOf worker.now.map.now post.crew) × P.serves worker.now.map.now }
-        ensures { IsAttendedSeat C.state P.gave worker.entry.now.registry.now state.entry.now.password (P.there worker.entry.now.registry.now) P.over worker.entry.now.map.now seat.old seat.new }
+        ensures { IsAttendedSeat C.state P.gave worker.entry.now.registry.now state.entry.now.password state.entry.now.is_strict (P.there worker.entry.now.registry.now) P.over worker.entry.now.map.now seat.old seat.new }
     {
         if let Some(post) = seat.take() {
             let Post { crew, mut clients } = post;

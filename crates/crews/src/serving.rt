@@ -1,5 +1,5 @@
 //! What answers the requests of a session: the crew's passes, and the programs that the session registered.
-ghost use Rattle.std.specs.Prelude.{◌≡◌, ◌≢◌, ℕ, List, [], ◌∷◌, true, false, All, IfOk, IfErr, OnOk, Err, MatchResult, MatchOption, Option, Some, option_copied};
+ghost use Rattle.std.specs.Prelude.{◌≡◌, ◌≢◌, ℕ, List, [], ◌∷◌, true, false, All, IsTrue, IfOk, IfErr, OnOk, Err, MatchResult, MatchOption, Option, Some, option_copied};
 ghost use Rattle.std.specs.Bool.{OnTrue};
 ghost use Rattle.bpf_model.specs.Meaning.{IsSafe};
 ghost use Rattle.bin_stripes.specs.Passes.{ServesSameMap};
@@ -26,9 +26,10 @@ use client_protocol::{Request, RequestView, ShortResponse, Version};
 use devices::Sink;
 use program_registry::{ProgramToken, Registry, SentProgram};
 use redis_service::{Moment, RedisDesk, RedisTalk, TalkEnd};
+use server_state::ServerState;
 use sessions::{
-    Answer, Service, answer_to, argument_of, call_of, may_be_sent, named_program, no_memory,
-    program_sent, unknown_program,
+    Answer, Service, answer_to, argument_of, call_of, may_be_sent, may_change, named_program,
+    no_memory, program_sent, unknown_program,
 };
 use std::marker::Model;
 use std::mem;
@@ -36,7 +37,8 @@ use std::sync::Wait;
 use std::thread::Threads;
 use verifier::Verified;
 
-/// What a session of a crew keeps: the crew's passes, and the tokens of the programs that the session registered.
+/// What a session of a crew keeps: the crew's passes, and the tokens of the programs that the session registered. The server is there if
+/// it is strict.
 #[derive(Drop)]
 pub struct Serving<'a> {
     pub map: &'a StripedMap,
@@ -44,17 +46,18 @@ pub struct Serving<'a> {
     pub pass: Pass,
     pub team: Vec<Pass>,
     pub tokens: Vec<ProgramToken>,
+    pub strict: Option<&'a ServerState>,
 }
 
 impl<'a> Model for Serving<'a> {
-    ghost use Rattle.std.specs.Prelude.{◌≡◌, ◌<◌, All, vec_len};
+    ghost use Rattle.std.specs.Prelude.{◌≡◌, ◌<◌, All, is_some, vec_len};
     ghost use Rattle.program_registry.specs.Tokens.{IsOf};
     ghost use Rattle.crews.specs.Stations.{Station};
     ghost use Rattle.crews.specs.Steps.{Agree};
 
     ghost Value = { Station };
 
-    ghost view = { λ s. record { pass = s.pass; team = s.team.items; tokens = record { registry = s.registry.now; items = s.tokens.items } } };
+    ghost view = { λ s. record { pass = s.pass; team = s.team.items; tokens = record { registry = s.registry.now; items = s.tokens.items }; is_strict = is_some s.strict } };
 
     ghost invariant = { λ s. (s.pass.map ≡ s.map.now) × All (λ p. p.map ≡ s.map.now) s.team.items
         × (0 < vec_len s.team) × All (λ t. IsOf s.registry.now t) s.tokens.items × Agree s.tokens.items };
@@ -190,9 +193,20 @@ impl<'a> Serving<'a> {
         &self.pass
     }
 
+    /// Tests whether requests that may change the map are refused now: the server is strict, and its last save could not be written.
+    #[inline(always)]
+    pub fn refuses_changes(&self) -> bool
+        ensures { IsTrue result → IsTrue self.now.is_strict }
+    {
+        match self.strict {
+            None => false,
+            Some(server) => server.refuses_changes(),
+        }
+    }
+
     /// Goes on with these tokens, and leaves there those that it had.
     pub fn lend(&mut self, tokens: &mut Tokens<'a>)
-        ensures here { self.new ≡ record { pass = self.old.pass; team = self.old.team; tokens = tokens.old } }
+        ensures here { self.new ≡ record self.old { tokens = tokens.old } }
         ensures there { tokens.new ≡ self.old.tokens }
     {
         mem::swap(&mut self.registry, &mut tokens.registry);
@@ -215,19 +229,20 @@ impl<'a> Serving<'a> {
         ensures desk { desk.new ≡ desk.old }
         ensures team { self.new.team ≡ self.old.team }
         ensures tokens { self.new.tokens ≡ self.old.tokens }
+        ensures strict { self.new.is_strict ≡ self.old.is_strict }
         ensures same { ServesSameMap self.old.pass self.new.pass }
         ensures numbers { self.new.pass.view.numbers ≡ self.old.pass.view.numbers }
         ensures ok { OnOk result ((talk.new.is_over ≡ false) × ((written : List ℕ)
             × TakesBytes (W.state sink.old) (W.state sink.new) written
-            × AnswersPiece moment.now.time talk.old self.old.pass piece.now written talk.new self.new.pass)) }
+            × AnswersPiece moment.now.time moment.now.refuses talk.old self.old.pass piece.now written talk.new self.new.pass)) }
         ensures over { result ≡ Err TalkEnd.Over → (talk.new.is_over ≡ true) × ((written : List ℕ)
             × TakesBytes (W.state sink.old) (W.state sink.new) written
-            × AnswersPiece moment.now.time talk.old self.old.pass piece.now written talk.new self.new.pass) }
+            × AnswersPiece moment.now.time moment.now.refuses talk.old self.old.pass piece.now written talk.new self.new.pass) }
         ensures memory { result ≡ Err TalkEnd.NoMemory
             → (talk.new ≡ talk.old) × (self.new ≡ self.old) × (W.state sink.new ≡ W.state sink.old) }
         ensures write { result ≡ Err TalkEnd.WriteFailed → ((written : List ℕ)
             × TakesThenFails (W.state sink.old) (W.state sink.new) written
-            × BreaksPiece moment.now.time talk.old self.old.pass piece.now written talk.new self.new.pass) }
+            × BreaksPiece moment.now.time moment.now.refuses talk.old self.old.pass piece.now written talk.new self.new.pass) }
     {
         desk.take(moment, &mut self.pass, talk, piece, sink)
     }
@@ -238,6 +253,7 @@ impl<'a> Serving<'a> {
         ensures desk { desk.new ≡ desk.old }
         ensures team { self.new.team ≡ self.old.team }
         ensures tokens { self.new.tokens ≡ self.old.tokens }
+        ensures strict { self.new.is_strict ≡ self.old.is_strict }
         ensures same { ServesSameMap self.old.pass self.new.pass }
         ensures numbers { self.new.pass.view.numbers ≡ self.old.pass.view.numbers }
         ensures sweeps { Sweeps now self.old.pass self.new.pass }
@@ -401,6 +417,9 @@ impl<'a> Serving<'a> {
         ensures { CrewServes hello self.old request.now (responses_of result value.new) self.new }
     {
         worker.gate.pass(Place::Request, number);
+        if self.refuses_changes() && may_change(request) {
+            return Answer::One(no_memory());
+        }
         match request.view() {
             RequestView::Hello { version } => Answer::One(ShortResponse::Hello { version }),
             RequestView::Register { sizes, program } => {

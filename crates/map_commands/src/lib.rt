@@ -29,4 +29,6 @@ pub use program::{bpfmap_on, tell_unread_words, told_error};
 pub use refusal::Refusal;
 pub use report::{LINE_BYTES, Line, Report, append, text_line, unit_lines};
 pub use sessions::{Alone, Answer, Service, SessionEnd, run_session, session_alone};
-pub use words::{Command, RunTexts, Task, given_size, parse_words, size_option};
+pub use words::{
+    Command, RunTexts, Task, flag_option, given_size, is_given, parse_words, size_option,
+};

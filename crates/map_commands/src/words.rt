@@ -62,6 +62,10 @@ const KEY_DEFAULT: u16 = 64;
 /// The declared size of an old value, an argument or a result, if none is given.
 const VALUE_DEFAULT: u16 = 256;
 
+/// What the program does beside these commands.
+const KEPT_HELP: &str =
+    "bpfmap kept FILE, with no other words, prints what a file has in which mapd keeps its map.";
+
 /// The number of stripes, if none is given.
 const STRIPES_DEFAULT: u16 = 16;
 
@@ -148,7 +152,7 @@ fn plain_command<'a>(alloc: Global, name: &'a str, about: &'a str) -> clap::Comm
 }
 
 /// An option without a value.
-fn flag_option<'a>(alloc: Global, name: &'a str, help: &'a str) -> Arg<'a>
+pub fn flag_option<'a>(alloc: Global, name: &'a str, help: &'a str) -> Arg<'a>
     ensures rule { rule_of result ≡ flag_option name.entry.now }
     ensures local { result.global ≡ false }
 {
@@ -226,6 +230,7 @@ fn bpfmap_command<'a>(alloc: Global) -> Result<clap::Command<'a>, AllocError>
     let about = "Assembles BPF programs, verifies them and runs them";
     plain_command(alloc, "bpfmap", about)
         .version("0.1.0")
+        .after_help(KEPT_HELP)
         .subcommand_required(true)
         .arg_required_else_help(true)
         .disable_help_subcommand(true)
@@ -255,8 +260,8 @@ fn sizes_of(matches: &ArgMatches<'_>) -> Sizes
     }
 }
 
-/// Whether the option without a value is given.
-fn is_given(matches: &ArgMatches<'_>, name: &str) -> bool
+/// Tests whether the option without a value is given.
+pub fn is_given(matches: &ArgMatches<'_>, name: &str) -> bool
     ensures { IsTrue result ↔ IsGiven (rows_of (found_of matches.now)) name.now }
 {
     match matches.get_str(name) {

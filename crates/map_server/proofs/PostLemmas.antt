@@ -1,5 +1,5 @@
 -- Crews of posts.
-use Rattle.std.proofs.Common.{◌≡◌, ℕ, suc, Option, List, [], ◌∷◌, length, map, All, refl, ap, sym, subst}
+use Rattle.std.proofs.Common.{◌≡◌, ℕ, suc, Bool, Option, List, [], ◌∷◌, length, map, All, refl, ap, sym, subst}
 use Rattle.std.proofs.lemmas.List.Elements.{All-nil, All-cons, All-head, All-tail, All-map}
 use Rattle.atomic_table.specs.Seated.{TableId}
 use Rattle.crews.specs.declared.crew.Crew.{Crew}
@@ -11,12 +11,12 @@ use Rattle.crews.specs.Steps.{Pairwise}
 use Rattle.map_server.specs.ServerRuns.{AnyComes, HaveAttended, tells_none}
 
 -- the crews of posts that came back have attended
-pub crews_attended : {P : Type 0} (registry : Registry) (password : Option (List ℕ)) (crews : List Crew) (olds news : List (Post P Crew)) → map (λ post. post.crew) olds ≡ crews
-    → Pairwise (λ old new. CarriesSame old.crew new.crew) olds news → Pairwise (λ old new. HasLived tells_none AnyComes registry password old.crew new.crew) olds news
-    → HaveAttended registry password crews (map (λ post. post.crew) news)
-crews_attended registry password crews olds news are same lived = subst (λ (all : List Crew). HaveAttended registry password all (map (λ post. post.crew) news)) are (each olds news same lived) where
+pub crews_attended : {P : Type 0} (registry : Registry) (password : Option (List ℕ)) (strict : Bool) (crews : List Crew) (olds news : List (Post P Crew)) → map (λ post. post.crew) olds ≡ crews
+    → Pairwise (λ old new. CarriesSame old.crew new.crew) olds news → Pairwise (λ old new. HasLived tells_none AnyComes registry password strict old.crew new.crew) olds news
+    → HaveAttended registry password strict crews (map (λ post. post.crew) news)
+crews_attended registry password strict crews olds news are same lived = subst (λ (all : List Crew). HaveAttended registry password strict all (map (λ post. post.crew) news)) are (each olds news same lived) where
   each : {P : Type 0} (olds news : List (Post P Crew)) → Pairwise (λ old new. CarriesSame old.crew new.crew) olds news
-      → Pairwise (λ old new. HasLived tells_none AnyComes registry password old.crew new.crew) olds news → HaveAttended registry password (map (λ post. post.crew) olds) (map (λ post. post.crew) news)
+      → Pairwise (λ old new. HasLived tells_none AnyComes registry password strict old.crew new.crew) olds news → HaveAttended registry password strict (map (λ post. post.crew) olds) (map (λ post. post.crew) news)
   each [] [] same lived = tt
   each [] (new ∷ news) same lived = absurd same
   each (old ∷ olds) [] same lived = absurd same

@@ -130,7 +130,7 @@ module _ (wanted : Bool) where
   abbrev option_at : ℕ → Rule → Rule
   option_at k other = slice_index_or (mapd_options wanted) k other
 
-  plain_rule : (k : ℕ) (r : Rule) → k < 15 → ((option_at k r).is_simple ≡ true) × ((option_at k r).is_free ≡ true)
+  plain_rule : (k : ℕ) (r : Rule) → k < 16 → ((option_at k r).is_simple ≡ true) × ((option_at k r).is_free ≡ true)
   plain_rule zero r lt = (refl, refl)
   plain_rule (suc zero) r lt = (refl, refl)
   plain_rule (suc (suc zero)) r lt = (refl, refl)
@@ -146,10 +146,11 @@ module _ (wanted : Bool) where
   plain_rule (suc (suc (suc (suc (suc (suc (suc (suc (suc (suc (suc (suc zero)))))))))))) r lt = (refl, refl)
   plain_rule (suc (suc (suc (suc (suc (suc (suc (suc (suc (suc (suc (suc (suc zero))))))))))))) r lt = (refl, refl)
   plain_rule (suc (suc (suc (suc (suc (suc (suc (suc (suc (suc (suc (suc (suc (suc zero)))))))))))))) r lt = (refl, refl)
-  plain_rule (suc (suc (suc (suc (suc (suc (suc (suc (suc (suc (suc (suc (suc (suc (suc k))))))))))))))) r lt = absurd (omega arith)
+  plain_rule (suc (suc (suc (suc (suc (suc (suc (suc (suc (suc (suc (suc (suc (suc (suc zero))))))))))))))) r lt = (refl, refl)
+  plain_rule (suc (suc (suc (suc (suc (suc (suc (suc (suc (suc (suc (suc (suc (suc (suc (suc k)))))))))))))))) r lt = absurd (omega arith)
 
   abbrev IsOnly : ℕ → Type 0
-  IsOnly k = (j : ℕ) (r s : Rule) → j < 15 → bytes_eq (option_at j r).id (option_at k s).id ≡ true → j ≡ k
+  IsOnly k = (j : ℕ) (r s : Rule) → j < 16 → bytes_eq (option_at j r).id (option_at k s).id ≡ true → j ≡ k
 
   only_listen : IsOnly 0
   only_listen zero r s lt same = refl
@@ -167,7 +168,8 @@ module _ (wanted : Bool) where
   only_listen (suc (suc (suc (suc (suc (suc (suc (suc (suc (suc (suc (suc zero)))))))))))) r s lt same = absurd (true≢false (sym same))
   only_listen (suc (suc (suc (suc (suc (suc (suc (suc (suc (suc (suc (suc (suc zero))))))))))))) r s lt same = absurd (true≢false (sym same))
   only_listen (suc (suc (suc (suc (suc (suc (suc (suc (suc (suc (suc (suc (suc (suc zero)))))))))))))) r s lt same = absurd (true≢false (sym same))
-  only_listen (suc (suc (suc (suc (suc (suc (suc (suc (suc (suc (suc (suc (suc (suc (suc j))))))))))))))) r s lt same = absurd (omega arith)
+  only_listen (suc (suc (suc (suc (suc (suc (suc (suc (suc (suc (suc (suc (suc (suc (suc zero))))))))))))))) r s lt same = absurd (true≢false (sym same))
+  only_listen (suc (suc (suc (suc (suc (suc (suc (suc (suc (suc (suc (suc (suc (suc (suc (suc j)))))))))))))))) r s lt same = absurd (omega arith)
 
   only_workers : IsOnly 3
   only_workers zero r s lt same = absurd (true≢false (sym same))
@@ -185,7 +187,8 @@ module _ (wanted : Bool) where
   only_workers (suc (suc (suc (suc (suc (suc (suc (suc (suc (suc (suc (suc zero)))))))))))) r s lt same = absurd (true≢false (sym same))
   only_workers (suc (suc (suc (suc (suc (suc (suc (suc (suc (suc (suc (suc (suc zero))))))))))))) r s lt same = absurd (true≢false (sym same))
   only_workers (suc (suc (suc (suc (suc (suc (suc (suc (suc (suc (suc (suc (suc (suc zero)))))))))))))) r s lt same = absurd (true≢false (sym same))
-  only_workers (suc (suc (suc (suc (suc (suc (suc (suc (suc (suc (suc (suc (suc (suc (suc j))))))))))))))) r s lt same = absurd (omega arith)
+  only_workers (suc (suc (suc (suc (suc (suc (suc (suc (suc (suc (suc (suc (suc (suc (suc zero))))))))))))))) r s lt same = absurd (true≢false (sym same))
+  only_workers (suc (suc (suc (suc (suc (suc (suc (suc (suc (suc (suc (suc (suc (suc (suc (suc j)))))))))))))))) r s lt same = absurd (omega arith)
 
   only_team : IsOnly 4
   only_team zero r s lt same = absurd (true≢false (sym same))
@@ -203,7 +206,8 @@ module _ (wanted : Bool) where
   only_team (suc (suc (suc (suc (suc (suc (suc (suc (suc (suc (suc (suc zero)))))))))))) r s lt same = absurd (true≢false (sym same))
   only_team (suc (suc (suc (suc (suc (suc (suc (suc (suc (suc (suc (suc (suc zero))))))))))))) r s lt same = absurd (true≢false (sym same))
   only_team (suc (suc (suc (suc (suc (suc (suc (suc (suc (suc (suc (suc (suc (suc zero)))))))))))))) r s lt same = absurd (true≢false (sym same))
-  only_team (suc (suc (suc (suc (suc (suc (suc (suc (suc (suc (suc (suc (suc (suc (suc j))))))))))))))) r s lt same = absurd (omega arith)
+  only_team (suc (suc (suc (suc (suc (suc (suc (suc (suc (suc (suc (suc (suc (suc (suc zero))))))))))))))) r s lt same = absurd (true≢false (sym same))
+  only_team (suc (suc (suc (suc (suc (suc (suc (suc (suc (suc (suc (suc (suc (suc (suc (suc j)))))))))))))))) r s lt same = absurd (omega arith)
 
   only_clients : IsOnly 6
   only_clients zero r s lt same = absurd (true≢false (sym same))
@@ -221,7 +225,8 @@ module _ (wanted : Bool) where
   only_clients (suc (suc (suc (suc (suc (suc (suc (suc (suc (suc (suc (suc zero)))))))))))) r s lt same = absurd (true≢false (sym same))
   only_clients (suc (suc (suc (suc (suc (suc (suc (suc (suc (suc (suc (suc (suc zero))))))))))))) r s lt same = absurd (true≢false (sym same))
   only_clients (suc (suc (suc (suc (suc (suc (suc (suc (suc (suc (suc (suc (suc (suc zero)))))))))))))) r s lt same = absurd (true≢false (sym same))
-  only_clients (suc (suc (suc (suc (suc (suc (suc (suc (suc (suc (suc (suc (suc (suc (suc j))))))))))))))) r s lt same = absurd (omega arith)
+  only_clients (suc (suc (suc (suc (suc (suc (suc (suc (suc (suc (suc (suc (suc (suc (suc zero))))))))))))))) r s lt same = absurd (true≢false (sym same))
+  only_clients (suc (suc (suc (suc (suc (suc (suc (suc (suc (suc (suc (suc (suc (suc (suc (suc j)))))))))))))))) r s lt same = absurd (omega arith)
 
   only_keep_seconds : IsOnly 10
   only_keep_seconds zero r s lt same = absurd (true≢false (sym same))
@@ -239,7 +244,8 @@ module _ (wanted : Bool) where
   only_keep_seconds (suc (suc (suc (suc (suc (suc (suc (suc (suc (suc (suc (suc zero)))))))))))) r s lt same = absurd (true≢false (sym same))
   only_keep_seconds (suc (suc (suc (suc (suc (suc (suc (suc (suc (suc (suc (suc (suc zero))))))))))))) r s lt same = absurd (true≢false (sym same))
   only_keep_seconds (suc (suc (suc (suc (suc (suc (suc (suc (suc (suc (suc (suc (suc (suc zero)))))))))))))) r s lt same = absurd (true≢false (sym same))
-  only_keep_seconds (suc (suc (suc (suc (suc (suc (suc (suc (suc (suc (suc (suc (suc (suc (suc j))))))))))))))) r s lt same = absurd (omega arith)
+  only_keep_seconds (suc (suc (suc (suc (suc (suc (suc (suc (suc (suc (suc (suc (suc (suc (suc zero))))))))))))))) r s lt same = absurd (true≢false (sym same))
+  only_keep_seconds (suc (suc (suc (suc (suc (suc (suc (suc (suc (suc (suc (suc (suc (suc (suc (suc j)))))))))))))))) r s lt same = absurd (omega arith)
 
 plain_arg : (a : Arg) → is_simple_arg a ≡ true → is_free_arg a ≡ true → IsPlainArg a
 plain_arg a simple free =
@@ -330,17 +336,17 @@ module _ (wanted : Bool) (c : Command) (is : app_of c ≡ mapd wanted) where
   rules_are : map rule_of (args_of c) ≡ mapd_options wanted
   rules_are = ap (λ (a : App). a.top.rules) is
 
-  fifteen : length (args_of c) ≡ 15
-  fifteen = sym (map_length (args_of c)) ∙ ap length rules_are
+  sixteen : length (args_of c) ≡ 16
+  sixteen = sym (map_length (args_of c)) ∙ ap length rules_are
 
   rule_is : (k : ℕ) (d : Arg) → rule_of (slice_index_or (args_of c) k d) ≡ option_at wanted k (rule_of d)
   rule_is k d = rule_at (args_of c) k d ∙ ap (λ (rs : List Rule). slice_index_or rs k (rule_of d)) rules_are
 
   simple_is : (k : ℕ) (d : Arg) → k < length (args_of c) → is_simple_arg (slice_index_or (args_of c) k d) ≡ true
-  simple_is k d lt = ap (λ (r : Rule). r.is_simple) (rule_is k d) ∙ (plain_rule wanted k (rule_of d) (subst (λ (n : ℕ). k < n) fifteen lt)).0
+  simple_is k d lt = ap (λ (r : Rule). r.is_simple) (rule_is k d) ∙ (plain_rule wanted k (rule_of d) (subst (λ (n : ℕ). k < n) sixteen lt)).0
 
   args_plain : All IsPlainArg (args_of c)
-  args_plain = λ k d lt. plain_arg (slice_index_or (args_of c) k d) (simple_is k d lt) (ap (λ (r : Rule). r.is_free) (rule_is k d) ∙ (plain_rule wanted k (rule_of d) (subst (λ (n : ℕ). k < n) fifteen lt)).1)
+  args_plain = λ k d lt. plain_arg (slice_index_or (args_of c) k d) (simple_is k d lt) (ap (λ (r : Rule). r.is_free) (rule_is k d) ∙ (plain_rule wanted k (rule_of d) (subst (λ (n : ℕ). k < n) sixteen lt)).1)
 
   command_plain : IsPlain c
   command_plain = (args_plain, is_nil _ (both _ _ (ap (λ (a : App). a.top.is_plain) is)).0)
@@ -356,12 +362,12 @@ module _ (wanted : Bool) (c : Command) (is : app_of c ≡ mapd wanted) where
   unique k d only j e lt same =
       let first = ap (λ (r : Rule). r.id) (rule_is j e) in
       let second = ap (λ (r : Rule). r.id) (rule_is k d) in
-      only j (rule_of e) (rule_of d) (subst (λ (n : ℕ). j < n) fifteen lt) (subst (λ (t : List ℕ). bytes_eq (option_at wanted j (rule_of e)).id t ≡ true) second (subst (λ (t : List ℕ). bytes_eq t (slice_index_or (args_of c) k d).id.now ≡ true) first same))
+      only j (rule_of e) (rule_of d) (subst (λ (n : ℕ). j < n) sixteen lt) (subst (λ (t : List ℕ). bytes_eq (option_at wanted j (rule_of e)).id t ≡ true) second (subst (λ (t : List ℕ). bytes_eq t (slice_index_or (args_of c) k d).id.now ≡ true) first same))
 
   -- the address is there, if it is wanted
   pub listen_given : wanted ≡ true → (m : ArgMatches) → IsParsedFrom c m → is_some (first_value (found_of m) (codes "listen")) ≡ true
   listen_given so m p =
-      let lt : 0 < length (args_of c) = rw fifteen (omega arith) in
+      let lt : 0 < length (args_of c) = rw sixteen (omega arith) in
       let d = some_arg (args_of c) lt in
       let a = slice_index_or (args_of c) 0 d in
       let r = rule_is 0 d in
@@ -421,11 +427,11 @@ module _ (wanted : Bool) (c : Command) (is : app_of c ≡ mapd wanted) where
             (subst (λ (a : MatchedArg). All (λ v. IsSignedIn (pos 1) (pos most) v.now) a.vals.items) got.1 (λ i d lt. values _ (all i d lt)))
 
     -- what the option is read as, or its default, lies in the range
-    range_given : (default : ℕ) → 1 ≤ default → default ≤ most → most < 2 ^ 16 → k < 15 → ((r : Rule) → (option_at wanted k r).parser ≡ Some (Signed (pos 1) (pos most)))
+    range_given : (default : ℕ) → 1 ≤ default → default ≤ most → most < 2 ^ 16 → k < 16 → ((r : Rule) → (option_at wanted k r).parser ≡ Some (Signed (pos 1) (pos most)))
         → ((r : Rule) → (option_at wanted k r).id ≡ id) → (id ≡ [] → ⊥) → (id ≡ codes "help" → ⊥) → (id ≡ codes "version" → ⊥)
         → (1 ≤ given_size (rows_of (found_of m)) id default) × (given_size (rows_of (found_of m)) id default ≤ most)
     range_given default low high fits inside parser named some help version =
-        let lt : k < length (args_of c) = rw fifteen inside in
+        let lt : k < length (args_of c) = rw sixteen inside in
         let d = some_arg (args_of c) (omega arith) in
         let is_named : (arg d).id.now ≡ id = ap (λ (r : Rule). r.id) (rule_is k d) ∙ named (rule_of d) in
         let is_parsed : (arg d).value_parser ≡ Some (Signed (pos 1) (pos most)) = ap (λ (r : Rule). r.parser) (rule_is k d) ∙ parser (rule_of d) in

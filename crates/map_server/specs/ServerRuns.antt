@@ -1,5 +1,5 @@
 -- What a call of `mapd` does: what its words ask for, and what is told of it.
-use Rattle.std.specs.Prelude.{◌≡◌, ◌⊎◌, ℕ, true, false, is_some, if◌then◌else◌, List, ◌++◌, Option, None, codes, decimal, IfOk, IsOk, IsErr}
+use Rattle.std.specs.Prelude.{◌≡◌, ◌⊎◌, ℕ, Bool, true, false, is_some, if◌then◌else◌, List, ◌++◌, Option, None, codes, decimal, IfOk, IsOk, IsErr}
 use Rattle.clap.specs.Words.{IsAmong, fault_of}
 use Rattle.clap.specs.declared.error.ErrorKind.{ErrorKind}
 use Rattle.bin_stripes.specs.Opened.{IsPassCount}
@@ -95,24 +95,25 @@ abbrev pub AnyComes : PassState → Connection → Protocol → Type 0
 AnyComes pass connection protocol = Unit {0}
 
 -- the crew came back with the numbers that it had: turns of its own clients, whose programs are all of this registry, and its own sweeps moved it, and
--- nothing else; there may have been none. Clients of commands had to show this password, if there is one
-pub record HasAttended (registry : Registry) (password : Option (List ℕ)) (old new : Crew) : Type 0 where
+-- nothing else; there may have been none. Clients of commands had to show this password, if there is one. Only a strict server may refuse a
+-- change of a present key
+pub record HasAttended (registry : Registry) (password : Option (List ℕ)) (strict : Bool) (old new : Crew) : Type 0 where
   pub same : CarriesSame old new
-  pub lived : HasLived tells_none AnyComes registry password old new
+  pub lived : HasLived tells_none AnyComes registry password strict old new
 
 -- each crew came back so
-abbrev pub HaveAttended : Registry → Option (List ℕ) → List Crew → List Crew → Type 0
-HaveAttended registry password olds news = Pairwise (HasAttended registry password) olds news
+abbrev pub HaveAttended : Registry → Option (List ℕ) → Bool → List Crew → List Crew → Type 0
+HaveAttended registry password strict olds news = Pairwise (HasAttended registry password strict) olds news
 
 -- these crews came back so; or memory was refused, and nobody was served
-abbrev pub ServedBy : Registry → Option (List ℕ) → List Crew → Served → Type 0
-ServedBy registry password crews served = IfOk served.crews (λ back. HaveAttended registry password crews back.items)
+abbrev pub ServedBy : Registry → Option (List ℕ) → Bool → List Crew → Served → Type 0
+ServedBy registry password strict crews served = IfOk served.crews (λ back. HaveAttended registry password strict crews back.items)
 
 -- `ready` can't be printed; or it is, then this is served, an end of serving is seen, and then it is printed
 abbrev pub ServesReady : (Served → Type 0) → Registry → Ready → SinkState → SinkState → ℕ → Type 0
 ServesReady saw registry ready old new status =
     ((status ≡ 3) × TakesFront old new (codes "ready\n"))
-    ⊎ ((served : Served) × saw served × HasServed ready served × ServedBy registry ready.password ready.crews.items served × EndsServing served old new (codes "ready\n") status)
+    ⊎ ((served : Served) × saw served × HasServed ready served × ServedBy registry ready.password ready.limits.is_strict ready.crews.items served × EndsServing served old new (codes "ready\n") status)
 
 -- over which listener is bound to which address, and which end of serving was seen
 module _ (bound : TcpListener → List ℕ → Type 0) (saw : Served → Type 0) where
@@ -124,7 +125,7 @@ module _ (bound : TcpListener → List ℕ → Type 0) (saw : Served → Type 0)
       ⊎ ((server : Server) × (served : Served) × (numbers : Option TcpListener)
       × IsAsked asked server × AreAskedTerms asked served.terms × HasPorts bound asked served.ports numbers
       × (is_some server.password ≡ is_some asked.password_file)
-      × (saw served × ServedBy server.registry server.password server.crews.items served × EndsServing served old new (codes "ready\n") status))
+      × (saw served × ServedBy server.registry server.password server.limits.is_strict server.crews.items served × EndsServing served old new (codes "ready\n") status))
 
 -- the line of a refusal with this number
 abbrev pub refusal_line : ℕ → List ℕ

@@ -1,5 +1,5 @@
 -- The command line of `mapd`: its options and defaults. How words are read is clap's (clap_builder 4.6).
-use Rattle.std.specs.Prelude.{◌≡◌, ◌≢◌, ◌≤◌, ◌⊎◌, ◌&&◌, ℕ, ℤ, Bool, true, false, not, List, [], ◌∷◌, Some, codes, is_some, pos, option_and_then, option_map, string_bytes}
+use Rattle.std.specs.Prelude.{◌≡◌, ◌≢◌, ◌≤◌, ◌⊎◌, ◌↔◌, ◌&&◌, IsTrue, ℕ, ℤ, Bool, true, false, not, List, [], ◌∷◌, Some, codes, is_some, pos, option_and_then, option_map, string_bytes}
 use Rattle.clap.specs.Words.{App, IsAmong, Row, Rule, fault_of, first_of, matches_of, new_rule, one_of}
 use Rattle.clap.specs.Walk.{is_empty}
 use Rattle.clap.specs.Simple.{new_shape}
@@ -8,7 +8,7 @@ use Rattle.clap.specs.declared.Error.{Error}
 use Rattle.clap.specs.declared.error.ErrorKind.TheVariants.{OutOfMemory}
 use Rattle.clap.specs.declared.builder.ArgAction.TheVariants.{Set}
 use Rattle.clap.specs.declared.builder.ValueParser.TheVariants.{Signed}
-use Rattle.map_commands.specs.CommandLine.{given_size, size_option, spelled_size}
+use Rattle.map_commands.specs.CommandLine.{IsGiven, flag_option, given_size, size_option, spelled_size}
 use Rattle.map_server.specs.declared.words.MapdWords.{MapdWords}
 use Rattle.map_server.specs.declared.words.WordsFault.{WordsFault}
 use Rattle.map_server.specs.declared.words.WordsFault.TheVariants as fault
@@ -39,6 +39,7 @@ mapd_options wanted =
     ∷ text_option (codes "password-file") false
     ∷ text_option (codes "metrics") false
     ∷ size_option (codes "slowlog-microseconds")
+    ∷ flag_option (codes "keep-strict")
     ∷ []
 
 -- a command without subcommands
@@ -71,6 +72,7 @@ pub record AsksFor (rows : List Row) (asked : MapdWords) : Type 0 where
   pub password_file : option_map string_bytes asked.password_file ≡ first_of (codes "password-file") rows
   pub metrics : option_map string_bytes asked.metrics ≡ first_of (codes "metrics") rows
   pub slowlog_microseconds : asked.slowlog_microseconds ≡ option_and_then spelled_size (one_of (codes "slowlog-microseconds") rows)
+  pub keep_strict : IsTrue asked.keep_strict ↔ IsGiven rows (codes "keep-strict")
 
 -- what the words ask for, of which the first is the program's name: clap finds no fault in them, and they ask for this
 abbrev pub AsksServer : List (List ℕ) → MapdWords → Type 0

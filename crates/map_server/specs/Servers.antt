@@ -66,7 +66,7 @@ pub record HasServed (ready : Ready) (served : Served) : Type 0 where
   pub terms : AreTerms ready served.terms
 
 -- clients were served on the terms that are asked for: this number of sessions for each worker, within these limits, which also say what
--- is kept for SLOWLOG and what may be kept for clients, this number of seconds from one save to the next, a password if there is a file of
+-- is kept for SLOWLOG, what may be kept for clients and if changes are refused while saves fail, this number of seconds from one save to the next, a password if there is a file of
 -- one, and numbers if there is a port for them
 pub record AreAskedTerms (asked : MapdWords) (terms : Terms) : Type 0 where
   pub sessions : terms.sessions ≡ asked.sessions
@@ -74,6 +74,7 @@ pub record AreAskedTerms (asked : MapdWords) (terms : Terms) : Type 0 where
   pub idle : terms.limits.idle ≡ asked.idle
   pub slow : terms.limits.slow ≡ asked.slowlog_microseconds
   pub memory : terms.limits.session_bytes ≡ (shares_of asked.memory).sessions
+  pub strict : terms.limits.is_strict ≡ asked.keep_strict
   pub password : terms.has_password ≡ is_some asked.password_file
   pub keeps : terms.keeps ≡ (if is_some asked.keep then Some asked.keep_seconds else None)
   pub watches : terms.watches ≡ is_some asked.metrics
@@ -91,6 +92,7 @@ pub record IsAsked (asked : MapdWords) (server : Server) : Type 0 where
   pub idle : server.limits.idle ≡ asked.idle
   pub slow : server.limits.slow ≡ asked.slowlog_microseconds
   pub memory : server.limits.session_bytes ≡ (shares_of asked.memory).sessions
+  pub strict : server.limits.is_strict ≡ asked.keep_strict
   pub protocols : server.protocols ≡ protocols_of asked
   pub scripts : server.scripts ≡ asked.programs
   pub keeper : is_some server.keeper ≡ is_some asked.keep

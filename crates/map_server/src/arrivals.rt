@@ -10,7 +10,8 @@ use std::sync::atomic::{AtomicBool, AtomicU64, Ordering};
 use std::sync::{Mutex, Wait};
 use std::time::Duration;
 
-/// How many clients are served at once, how long one may be silent, and how long one of its commands may take before it is kept.
+/// How many clients are served at once, how long one may be silent, how long one of its commands may take before it is kept, and what else
+/// clients may do.
 #[derive(Clone, Copy, Debug, PartialEq, Eq)]
 pub struct Limits {
     /// How many clients may be there at once, over all workers. One more is told that there is no room.
@@ -21,6 +22,8 @@ pub struct Limits {
     pub slow: Option<u64>,
     /// How many bytes may be kept for all clients between their turns, before those that need most are let go.
     pub session_bytes: u64,
+    /// Whether requests that may change the map are refused while it can't be saved.
+    pub is_strict: bool,
 }
 
 /// No limits.
@@ -29,6 +32,7 @@ pub(crate) const NO_LIMITS: Limits = Limits {
     idle: None,
     slow: None,
     session_bytes: u64::MAX,
+    is_strict: false,
 };
 
 /// What follows from a failed accept.

@@ -126,6 +126,7 @@ fn server_of(
         idle: asked.idle,
         slow: asked.slowlog_microseconds,
         session_bytes: shares.sessions,
+        is_strict: asked.keep_strict,
     };
     Ok(Server {
         map,

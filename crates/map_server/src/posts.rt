@@ -62,7 +62,7 @@ pub(crate) fn attend_all<'a, 'r, H: Threads + Wait + Clock + Sync, E: Sink + Sen
 ) -> Result<Vec<Attended>, NoMemory>
     requires crews { All (λ crew. IsCrewOf worker.now.map.now crew) crews.items }
     requires polls { vec_len polls ≡ vec_len crews }
-    ensures lived { IfOk result (λ back. HaveAttended worker.now.registry.now entrance.now.state.now.password crews.items back.items) }
+    ensures lived { IfOk result (λ back. HaveAttended worker.now.registry.now entrance.now.state.now.password entrance.now.state.now.is_strict crews.items back.items) }
     ensures map { IfOk result (λ back. All (λ crew. IsCrewOf worker.now.map.now crew) back.items) }
 {
     let back = Vec::with_capacity(worker.alloc, crews.len())?;

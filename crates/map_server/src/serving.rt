@@ -89,17 +89,21 @@ impl Served {
     }
 }
 
-/// What all threads know of a server that began at this time, keeps this much for its clients, and keeps commands for SLOWLOG from this
-/// number of microseconds on, if there is one. `NoMemory` if a request for memory was refused.
+/// What all threads know of a server that began at this time, within these limits, and keeps commands for SLOWLOG from a number of
+/// microseconds on, if there is one. `NoMemory` if a request for memory was refused.
 fn state_of(
     alloc: Global,
     workers: u64,
     keeps: bool,
     began: u64,
     limits: &Limits,
-) -> Result<ServerState, NoMemory> {
+) -> Result<ServerState, NoMemory>
+    ensures { IfOk result (λ state. state.is_strict ≡ limits.now.is_strict) }
+{
     let state = ServerState::new(alloc, workers, keeps, began)?;
-    let state = state.with_session_bytes(limits.session_bytes);
+    let state = state
+        .with_session_bytes(limits.session_bytes)
+        .with_strict(limits.is_strict);
     match limits.slow {
         None => Ok(state),
         Some(least) => Ok(state.with_slow_log(SlowLog::from(alloc, least)?)),
@@ -165,7 +169,7 @@ pub(crate) fn serve_ports<'a, H: Threads + Wait + Clock + Sync, E: Sink + Send>(
     errors: Telling<'a, E>,
 ) -> (Served, Telling<'a, E>)
     requires { CanServe shared.now ready }
-    ensures crews { IfOk result.0.crews (λ back. HaveAttended shared.now.registry.now ready.entry.password ready.entry.crews.items back.items) }
+    ensures crews { IfOk result.0.crews (λ back. HaveAttended shared.now.registry.now ready.entry.password ready.entry.limits.is_strict ready.entry.crews.items back.items) }
     ensures served { HasServed ready.entry result.0 }
 {
     let terms = Terms::of(&ready);

@@ -98,7 +98,7 @@ fn attend_and_keep<'a, 'r, H: Threads + Wait + Clock + Sync, E: Sink + Send>(
     requires polls { vec_len polls ≡ vec_len crews }
     requires kept { (pass_of kept.keeper).map ≡ shared.now.map.now }
     ensures { IfOk result.0 (λ back.
-        HaveAttended worker.now.registry.now entrance.now.state.now.password crews.items back.items × All (λ crew. IsCrewOf worker.now.map.now crew) back.items) }
+        HaveAttended worker.now.registry.now entrance.now.state.now.password entrance.now.state.now.is_strict crews.items back.items × All (λ crew. IsCrewOf worker.now.map.now crew) back.items) }
 {
     let bell = Bell::new();
     let bell = &bell;
@@ -118,7 +118,7 @@ fn attend_and_keep<'a, 'r, H: Threads + Wait + Clock + Sync, E: Sink + Send>(
     let serving = move || -> Result<Vec<Attended>, NoMemory>
         requires { IsSomeAnd given (λ given. All (λ crew. IsCrewOf worker.now.map.now crew) given.0.items × (vec_len given.1 ≡ vec_len given.0)) }
         ensures { IfOk result (λ back. IfSome given.entry (λ given.
-            HaveAttended worker.entry.now.registry.now entrance.entry.now.state.now.password given.0.items back.items × All (λ crew. IsCrewOf worker.entry.now.map.now crew) back.items)) }
+            HaveAttended worker.entry.now.registry.now entrance.entry.now.state.now.password entrance.entry.now.state.now.is_strict given.0.items back.items × All (λ crew. IsCrewOf worker.entry.now.map.now crew) back.items)) }
     {
         let Some((crews, polls)) = given.take() else {
             unreachable!()
@@ -144,7 +144,7 @@ pub(crate) fn attend<'a, 'r, H: Threads + Wait + Clock + Sync, E: Sink + Send>(
     requires polls { vec_len polls ≡ vec_len crews }
     requires kept { IfSome kept (λ kept. (pass_of kept.keeper).map ≡ shared.now.map.now) }
     ensures { IfOk result.0 (λ back.
-        HaveAttended worker.now.registry.now entrance.now.state.now.password crews.items back.items × All (λ crew. IsCrewOf worker.now.map.now crew) back.items) }
+        HaveAttended worker.now.registry.now entrance.now.state.now.password entrance.now.state.now.is_strict crews.items back.items × All (λ crew. IsCrewOf worker.now.map.now crew) back.items) }
 {
     match kept {
         None => (
@@ -169,7 +169,7 @@ pub(crate) fn attend_and_watch<'a, 'r, H: Threads + Wait + Clock + Sync, E: Sink
     requires kept { IfSome kept (λ kept. (pass_of kept.keeper).map ≡ shared.now.map.now) }
     requires watch { watch.pass.map ≡ shared.now.map.now }
     ensures { IfOk result.0 (λ back.
-        HaveAttended worker.now.registry.now entrance.now.state.now.password posts.0.items back.items × All (λ crew. IsCrewOf worker.now.map.now crew) back.items) }
+        HaveAttended worker.now.registry.now entrance.now.state.now.password entrance.now.state.now.is_strict posts.0.items back.items × All (λ crew. IsCrewOf worker.now.map.now crew) back.items) }
 {
     let bell = Bell::new();
     let bell = &bell;
@@ -185,7 +185,7 @@ pub(crate) fn attend_and_watch<'a, 'r, H: Threads + Wait + Clock + Sync, E: Sink
             × (vec_len given.0.1 ≡ vec_len given.0.0)
             × IfSome given.1 (λ kept. (pass_of kept.keeper).map ≡ shared.now.map.now)) }
         ensures { IfOk result.0 (λ back. IfSome given.entry (λ given.
-            HaveAttended worker.entry.now.registry.now entrance.entry.now.state.now.password given.0.0.items back.items × All (λ crew. IsCrewOf worker.entry.now.map.now crew) back.items)) }
+            HaveAttended worker.entry.now.registry.now entrance.entry.now.state.now.password entrance.entry.now.state.now.is_strict given.0.0.items back.items × All (λ crew. IsCrewOf worker.entry.now.map.now crew) back.items)) }
     {
         let Some(((crews, polls), kept)) = given.take() else {
             unreachable!()

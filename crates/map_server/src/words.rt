@@ -13,7 +13,7 @@ use bpf_model::NoMemory;
 use clap::builder::ValueParser;
 use clap::error::ErrorKind;
 use clap::{Arg, ArgAction, ArgMatches, value_parser};
-use map_commands::{given_size, size_option};
+use map_commands::{flag_option, given_size, is_given, size_option};
 use std::alloc::{AllocError, Global};
 use std::error::Error;
 use std::fmt;
@@ -45,6 +45,8 @@ pub struct MapdWords {
     pub keep: Option<String>,
     /// How many seconds it is from one save to the next.
     pub keep_seconds: u64,
+    /// Whether requests that may change the map are refused while it can't be saved.
+    pub keep_strict: bool,
     /// The file whose first line is the password that clients of Redis have to show; none: they needn't.
     pub password_file: Option<String>,
     /// The address of the port whose clients read the server's numbers over HTTP; none: there is no such port.
@@ -307,6 +309,11 @@ fn mapd_command<'a>(alloc: Global, wanted: bool) -> Result<clap::Command<'a>, Al
             "slowlog-microseconds",
             "NUMBER",
             "Microseconds from which on SLOWLOG shows a command of Redis, 0 to 65535 [default: never]",
+        ))?
+        .arg(flag_option(
+            alloc,
+            "keep-strict",
+            "Refuses changes with 9 while the map can't be saved, if there is a --keep [default: they go on]",
         ))
 }
 
@@ -358,6 +365,7 @@ fn words_of(alloc: Global, matches: &ArgMatches<'_>) -> Result<MapdWords, NoMemo
         password_file: given_text(alloc, matches, "password-file")?,
         metrics: given_text(alloc, matches, "metrics")?,
         slowlog_microseconds: widened(given_number(matches, "slowlog-microseconds")),
+        keep_strict: is_given(matches, "keep-strict"),
     })
 }
 

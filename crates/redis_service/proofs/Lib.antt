@@ -10,6 +10,7 @@ pub mod ReadLemmas
 pub mod TalkLemmas
 pub mod FaultLemmas
 pub mod GuardLemmas
+pub mod RefusedLemmas
 pub mod InfoLemmas
 pub mod EndLemmas
 pub mod WalkLemmas

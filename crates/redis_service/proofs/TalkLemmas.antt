@@ -1,5 +1,5 @@
 -- Commands that are answered one after the other, and how that stops.
-use Rattle.std.proofs.Common.{◌≡◌, ℕ, true, false, List, [], ◌∷◌, ◌++◌, length, flat_map, Option, None, Result, Ok, Err, refl, sym, ap, subst, ◌∙◌, inl, inr, append_assoc, arith}
+use Rattle.std.proofs.Common.{◌≡◌, ℕ, Bool, true, false, List, [], ◌∷◌, ◌++◌, length, flat_map, Option, None, Result, Ok, Err, refl, sym, ap, subst, ◌∙◌, inl, inr, append_assoc, arith}
 use Rattle.std.proofs.lemmas.List.{append-nil, length-append}
 use Rattle.resp.specs.Grammar.{IsBegun}
 use Rattle.std.proofs.lemmas.List.Concat.{flat_map-append}
@@ -17,28 +17,28 @@ use Rattle.redis_service.specs.Stops.{Stops, AnswersAll, FailsAt, TellsEnd, Fail
 use Rattle.redis_service.proofs.SendLemmas.{takes_then, cut_after}
 
 -- one more
-each_more : (now : ℕ) → (talk mid next : TalkState) (old between new : PassState) (said : List Said) (one : Said) → AnswersEach now talk old said mid between → mid.is_over ≡ false
-    → AnswersSaid now mid between one next new → AnswersEach now talk old (said ++ one ∷ []) next new
-each_more now talk mid next old between new [] one (same-talk, same) goes answers = (
+each_more : (now : ℕ) (refuses : Bool) → (talk mid next : TalkState) (old between new : PassState) (said : List Said) (one : Said) → AnswersEach now refuses talk old said mid between → mid.is_over ≡ false
+    → AnswersSaid now refuses mid between one next new → AnswersEach now refuses talk old (said ++ one ∷ []) next new
+each_more now refuses talk mid next old between new [] one (same-talk, same) goes answers = (
   next,
   new,
   subst (λ (t : TalkState). t.is_over ≡ false) same-talk goes,
-  subst (λ (t : TalkState). AnswersSaid now t old one next new) same-talk (subst (λ (p : PassState). AnswersSaid now mid p one next new) same answers),
+  subst (λ (t : TalkState). AnswersSaid now refuses t old one next new) same-talk (subst (λ (p : PassState). AnswersSaid now refuses mid p one next new) same answers),
   (refl, refl),
 )
-each_more now talk mid next old between new (first ∷ said) one (t, p, is-goes, does, later) goes answers =
-    (t, p, is-goes, does, each_more now t mid next p between new said one later goes answers)
+each_more now refuses talk mid next old between new (first ∷ said) one (t, p, is-goes, does, later) goes answers =
+    (t, p, is-goes, does, each_more now refuses t mid next p between new said one later goes answers)
 
 -- nothing was read
-pub some_none : (now : ℕ) → (talk : TalkState) (old : PassState) (bytes : List ℕ) → AnswersSome now talk old bytes [] talk old bytes
-some_none now talk old bytes = record { said = []; each = (refl, refl); read_is = refl; written_is = refl }
+pub some_none : (now : ℕ) (refuses : Bool) → (talk : TalkState) (old : PassState) (bytes : List ℕ) → AnswersSome now refuses talk old bytes [] talk old bytes
+some_none now refuses talk old bytes = record { said = []; each = (refl, refl); read_is = refl; written_is = refl }
 
-pub some_more : (now : ℕ) → (talk mid next : TalkState) (old between new : PassState) (bytes written rest behind : List ℕ) (one : Said)
-    → AnswersSome now talk old bytes written mid between rest → mid.is_over ≡ false → rest ≡ one.read ++ behind → AnswersSaid now mid between one next new
-    → AnswersSome now talk old bytes (written ++ one.written) next new behind
-some_more now talk mid next old between new bytes written rest behind one some goes is answers = record {
+pub some_more : (now : ℕ) (refuses : Bool) → (talk mid next : TalkState) (old between new : PassState) (bytes written rest behind : List ℕ) (one : Said)
+    → AnswersSome now refuses talk old bytes written mid between rest → mid.is_over ≡ false → rest ≡ one.read ++ behind → AnswersSaid now refuses mid between one next new
+    → AnswersSome now refuses talk old bytes (written ++ one.written) next new behind
+some_more now refuses talk mid next old between new bytes written rest behind one some goes is answers = record {
   said = some.said ++ one ∷ [];
-  each = each_more now talk mid next old between new some.said one some.each goes answers;
+  each = each_more now refuses talk mid next old between new some.said one some.each goes answers;
   read_is =
       some.read_is ∙ ap (λ (t : List ℕ). flat_map (λ (s : Said). s.read) some.said ++ t) is ∙ sym (append_assoc (flat_map (λ (s : Said). s.read) some.said) one.read behind)
       ∙ ap (λ (t : List ℕ). t ++ behind)
@@ -49,32 +49,32 @@ some_more now talk mid next old between new bytes written rest behind one some g
 }
 
 -- a command was read and answered
-pub step_command : (now : ℕ) (after : Bor (List ℕ)) → (a b c : SinkState) (talk mid next : TalkState) (old between new : PassState) (bytes rest behind : List ℕ) (words : List (List ℕ))
-    → (written : List ℕ) × TakesBytes a b written × AnswersSome now talk old bytes written mid between rest → mid.is_over ≡ false → ReadsNext (Ok (Command after)) rest words behind
-    → (more : List ℕ) × TakesBytes b c more × AnswersWords now mid between words more next new
-    → (written : List ℕ) × TakesBytes a c written × AnswersSome now talk old bytes written next new behind
-step_command now after a b c talk mid next old between new bytes rest behind words (written, taken, some) goes ((read, is, spells), shorter) (more, sent, answers) = (
+pub step_command : (now : ℕ) (refuses : Bool) (after : Bor (List ℕ)) → (a b c : SinkState) (talk mid next : TalkState) (old between new : PassState) (bytes rest behind : List ℕ) (words : List (List ℕ))
+    → (written : List ℕ) × TakesBytes a b written × AnswersSome now refuses talk old bytes written mid between rest → mid.is_over ≡ false → ReadsNext (Ok (Command after)) rest words behind
+    → (more : List ℕ) × TakesBytes b c more × AnswersWords now refuses mid between words more next new
+    → (written : List ℕ) × TakesBytes a c written × AnswersSome now refuses talk old bytes written next new behind
+step_command now refuses after a b c talk mid next old between new bytes rest behind words (written, taken, some) goes ((read, is, spells), shorter) (more, sent, answers) = (
   written ++ more,
   takes_then a b c written more taken sent,
-  some_more now talk mid next old between new bytes written rest behind (record { read = read; written = more }) some goes is (inr (words, spells, answers)),
+  some_more now refuses talk mid next old between new bytes written rest behind (record { read = read; written = more }) some goes is (inr (words, spells, answers)),
 )
 
 -- something was read that is ignored
-pub step_nothing : (now : ℕ) (after : Bor (List ℕ)) → (a b : SinkState) (talk mid : TalkState) (old between : PassState) (bytes rest behind : List ℕ) (words : List (List ℕ))
-    → (written : List ℕ) × TakesBytes a b written × AnswersSome now talk old bytes written mid between rest → mid.is_over ≡ false → ReadsNext (Ok (Nothing after)) rest words behind
-    → (written : List ℕ) × TakesBytes a b written × AnswersSome now talk old bytes written mid between behind
-step_nothing now after a b talk mid old between bytes rest behind words (written, taken, some) goes ((read, is, ignored), shorter) = (
+pub step_nothing : (now : ℕ) (refuses : Bool) (after : Bor (List ℕ)) → (a b : SinkState) (talk mid : TalkState) (old between : PassState) (bytes rest behind : List ℕ) (words : List (List ℕ))
+    → (written : List ℕ) × TakesBytes a b written × AnswersSome now refuses talk old bytes written mid between rest → mid.is_over ≡ false → ReadsNext (Ok (Nothing after)) rest words behind
+    → (written : List ℕ) × TakesBytes a b written × AnswersSome now refuses talk old bytes written mid between behind
+step_nothing now refuses after a b talk mid old between bytes rest behind words (written, taken, some) goes ((read, is, ignored), shorter) = (
   written,
   taken,
-  subst (λ (t : List ℕ). AnswersSome now talk old bytes t mid between behind) (append-nil written)
-      (some_more now talk mid mid old between between bytes written rest behind (record { read = read; written = [] }) some goes is (inl (ignored, refl, refl, refl))),
+  subst (λ (t : List ℕ). AnswersSome now refuses talk old bytes t mid between behind) (append-nil written)
+      (some_more now refuses talk mid mid old between between bytes written rest behind (record { read = read; written = [] }) some goes is (inl (ignored, refl, refl, refl))),
 )
 
 -- a command was read and made, and a write of its answer failed
-pub step_fails : (now : ℕ) (after : Bor (List ℕ)) → (a b c : SinkState) (talk mid next : TalkState) (old between new : PassState) (bytes rest behind : List ℕ) (words : List (List ℕ))
-    → (written : List ℕ) × TakesBytes a b written × AnswersSome now talk old bytes written mid between rest → ReadsNext (Ok (Command after)) rest words behind
-    → (more : List ℕ) × TakesPart b c more × AnswersWords now mid between words more next new → FailsAt now a c talk old bytes next new
-step_fails now after a b c talk mid next old between new bytes rest behind words (written, taken, some) ((read, is, spells), shorter) (more, sent, answers) =
+pub step_fails : (now : ℕ) (refuses : Bool) (after : Bor (List ℕ)) → (a b c : SinkState) (talk mid next : TalkState) (old between new : PassState) (bytes rest behind : List ℕ) (words : List (List ℕ))
+    → (written : List ℕ) × TakesBytes a b written × AnswersSome now refuses talk old bytes written mid between rest → ReadsNext (Ok (Command after)) rest words behind
+    → (more : List ℕ) × TakesPart b c more × AnswersWords now refuses mid between words more next new → FailsAt now refuses a c talk old bytes next new
+step_fails now refuses after a b c talk mid next old between new bytes rest behind words (written, taken, some) ((read, is, spells), shorter) (more, sent, answers) =
     let (part, cut, both) = cut_after a b c written more taken sent in
     record {
       written = written;
@@ -92,18 +92,18 @@ step_fails now after a b c talk mid next old between new bytes rest behind words
     }
 
 -- all was answered, and the end told
-pub answers_of : (now : ℕ) → (a b c : SinkState) (talk mid next : TalkState) (old new : PassState) (bytes rest : List ℕ) (fault : Option NextFault) → AnswersAll now a b talk old bytes fault mid new rest
-    → TellsEnd b c rest mid next → (written : List ℕ) × TakesBytes a c written × AnswersBytes now talk old bytes written next new
-answers_of now a b c talk mid next old new bytes rest fault all end = (
+pub answers_of : (now : ℕ) (refuses : Bool) → (a b c : SinkState) (talk mid next : TalkState) (old new : PassState) (bytes rest : List ℕ) (fault : Option NextFault) → AnswersAll now refuses a b talk old bytes fault mid new rest
+    → TellsEnd b c rest mid next → (written : List ℕ) × TakesBytes a c written × AnswersBytes now refuses talk old bytes written next new
+answers_of now refuses a b c talk mid next old new bytes rest fault all end = (
   all.written ++ end.tail,
   takes_then a b c all.written end.tail all.taken end.taken,
   record { last = mid; before = all.written; rest = rest; some = all.some; ending = end.ending; tail = end.tail; ends = end.ends; written_is = refl },
 )
 
 -- a write of the answer to a command failed
-pub breaks_of_fails : (now : ℕ) → (a c : SinkState) (talk mid next : TalkState) (old new : PassState) (bytes : List ℕ) → FailsAt now a c talk old bytes mid new → next ≡ ended mid
-    → (written : List ℕ) × TakesThenFails a c written × BreaksBytes now talk old bytes written next new
-breaks_of_fails now a c talk mid next old new bytes fails is = (
+pub breaks_of_fails : (now : ℕ) (refuses : Bool) → (a c : SinkState) (talk mid next : TalkState) (old new : PassState) (bytes : List ℕ) → FailsAt now refuses a c talk old bytes mid new → next ≡ ended mid
+    → (written : List ℕ) × TakesThenFails a c written × BreaksBytes now refuses talk old bytes written next new
+breaks_of_fails now refuses a c talk mid next old new bytes fails is = (
   fails.written ++ fails.part,
   fails.taken,
   record {
@@ -122,9 +122,9 @@ breaks_of_fails now a c talk mid next old new bytes fails is = (
 )
 
 -- a write of what is told at the end failed
-pub breaks_of_end : (now : ℕ) → (a b c : SinkState) (talk mid next : TalkState) (old new : PassState) (bytes rest : List ℕ) (fault : Option NextFault) → AnswersAll now a b talk old bytes fault mid new rest
-    → FailsEnd b c rest mid next → next.is_over ≡ true → (written : List ℕ) × TakesThenFails a c written × BreaksBytes now talk old bytes written next new
-breaks_of_end now a b c talk mid next old new bytes rest fault all end over =
+pub breaks_of_end : (now : ℕ) (refuses : Bool) → (a b c : SinkState) (talk mid next : TalkState) (old new : PassState) (bytes rest : List ℕ) (fault : Option NextFault) → AnswersAll now refuses a b talk old bytes fault mid new rest
+    → FailsEnd b c rest mid next → next.is_over ≡ true → (written : List ℕ) × TakesThenFails a c written × BreaksBytes now refuses talk old bytes written next new
+breaks_of_end now refuses a b c talk mid next old new bytes rest fault all end over =
     let (part, cut, both) = cut_after a b c all.written end.tail all.taken end.taken in (
       all.written ++ part,
       both,
@@ -152,10 +152,10 @@ rest_is_all [] rest bytes is long = sym is
 rest_is_all (b ∷ read) rest bytes is long = absurd (omega (arith, ap length is, length-append (b ∷ read) rest))
 
 -- no command is whole, and all of the bytes are kept
-pub answers_held : (now : ℕ) → (a b : SinkState) (talk mid next : TalkState) (old new : PassState) (bytes rest : List ℕ) (fault : Option NextFault) → AnswersAll now a b talk old bytes fault mid new rest
+pub answers_held : (now : ℕ) (refuses : Bool) → (a b : SinkState) (talk mid next : TalkState) (old new : PassState) (bytes rest : List ℕ) (fault : Option NextFault) → AnswersAll now refuses a b talk old bytes fault mid new rest
     → length rest ≡ length bytes → fault ≡ None → mid.is_over ≡ false → next ≡ record mid { rest = bytes }
-    → (next.is_over ≡ false) × ((written : List ℕ) × TakesBytes a b written × AnswersBytes now talk old bytes written next new)
-answers_held now a b talk mid next old new bytes rest fault all long is goes end =
+    → (next.is_over ≡ false) × ((written : List ℕ) × TakesBytes a b written × AnswersBytes now refuses talk old bytes written next new)
+answers_held now refuses a b talk mid next old new bytes rest fault all long is goes end =
     let same : rest ≡ bytes = rest_is_all (flat_map (λ (s : Said). s.read) all.some.said) rest bytes all.some.read_is long in
     let begun : IsBegun rest = last_of_more mid rest (subst (λ (f : Option NextFault). Stops f mid rest) is all.stops) goes in (
       ap (λ (t : TalkState). t.is_over) end ∙ goes,
@@ -176,11 +176,11 @@ answers_held now a b talk mid next old new bytes rest fault all long is goes end
     )
 
 -- what came of the end is what came of all
-pub taken_of : (now : ℕ) (result : Result (Unit {0}) TalkEnd) (a b c : SinkState) (talk mid next : TalkState) (old new : PassState) (bytes rest : List ℕ) (fault : Option NextFault)
-    → AnswersAll now a b talk old bytes fault mid new rest → TellsLast result b c rest mid next → Taken now result a c talk old bytes next new
-taken_of now (Ok _) a b c talk mid next old new bytes rest fault all (tells, over) = (over, answers_of now a b c talk mid next old new bytes rest fault all tells)
-taken_of now (Err end.Over) a b c talk mid next old new bytes rest fault all (tells, over) =
-    (over, answers_of now a b c talk mid next old new bytes rest fault all tells)
-taken_of now (Err end.NoMemory) a b c talk mid next old new bytes rest fault all none = none
-taken_of now (Err end.WriteFailed) a b c talk mid next old new bytes rest fault all (fails, over) =
-    breaks_of_end now a b c talk mid next old new bytes rest fault all fails over
+pub taken_of : (now : ℕ) (refuses : Bool) (result : Result (Unit {0}) TalkEnd) (a b c : SinkState) (talk mid next : TalkState) (old new : PassState) (bytes rest : List ℕ) (fault : Option NextFault)
+    → AnswersAll now refuses a b talk old bytes fault mid new rest → TellsLast result b c rest mid next → Taken now refuses result a c talk old bytes next new
+taken_of now refuses (Ok _) a b c talk mid next old new bytes rest fault all (tells, over) = (over, answers_of now refuses a b c talk mid next old new bytes rest fault all tells)
+taken_of now refuses (Err end.Over) a b c talk mid next old new bytes rest fault all (tells, over) =
+    (over, answers_of now refuses a b c talk mid next old new bytes rest fault all tells)
+taken_of now refuses (Err end.NoMemory) a b c talk mid next old new bytes rest fault all none = none
+taken_of now refuses (Err end.WriteFailed) a b c talk mid next old new bytes rest fault all (fails, over) =
+    breaks_of_end now refuses a b c talk mid next old new bytes rest fault all fails over

@@ -1,5 +1,5 @@
 -- What each command of words does, and the answer to words that are none.
-use Rattle.std.specs.Prelude.{◌≡◌, ℕ, List, [], Bool, true, false, Option, Some, None, Result, Ok, Err}
+use Rattle.std.specs.Prelude.{◌≡◌, ℕ, List, [], Bool, true, false, ◌&&◌, Option, Some, None, Result, Ok, Err}
 use Rattle.bin_stripes.specs.Passes.{PassState}
 use Rattle.resp.specs.Replies.{error_bytes}
 use Rattle.redis_commands.specs.Commands.{Asked, Fault}
@@ -9,6 +9,7 @@ use Rattle.redis_commands.specs.Commands.Asked.{OnKey, OnKeys, SetEach, Walk, Co
 use Rattle.redis_commands.specs.Table.{asked_of, asked_before_auth}
 use Rattle.redis_commands.specs.Texts.{fault_text}
 use Rattle.redis_service.specs.States.{TalkState, is_authenticated}
+use Rattle.redis_service.specs.Changing.{changes, not_kept_line}
 use Rattle.redis_service.specs.Answers.{AnswersKey, AnswersKeys, AnswersSetEach, pairs}
 use Rattle.redis_service.specs.Walks.{AnswersWalk}
 use Rattle.redis_service.specs.Connections.{AnswersConnection}
@@ -54,7 +55,14 @@ module _ (now : ℕ) where
   read_of true words = asked_of now words
   read_of false words = asked_before_auth words
 
+  -- what was read is answered; or it is refused, and nothing changes
+  abbrev pub AnswersUnless : Bool → TalkState → PassState → Result Asked Fault → List ℕ → TalkState → PassState → Type 0
+  AnswersUnless true talk old read written next new = (written ≡ not_kept_line) × (new ≡ old) × Same talk next
+  AnswersUnless false talk old read written next new = AnswersRead talk old read written next new × Guards talk old read next new
+
+-- over the time at which the calls are made, and whether changes are refused then
+module _ (now : ℕ) (refuses : Bool) where
   abbrev pub AnswersWords : TalkState → PassState → List (List ℕ) → List ℕ → TalkState → PassState → Type 0
   AnswersWords talk old words written next new =
-      AnswersRead talk old (read_of (is_authenticated talk) words) written next new
-      × Guards talk old (read_of (is_authenticated talk) words) next new
+      AnswersUnless now (refuses && changes (read_of now (is_authenticated talk) words)) talk old
+      (read_of now (is_authenticated talk) words) written next new

@@ -3,6 +3,7 @@ pub mod Sending
 pub mod Replied
 pub mod Calls
 pub mod Changes
+pub mod Changing
 pub mod Texts
 pub mod Deadlines
 pub mod Planned

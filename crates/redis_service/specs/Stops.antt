@@ -1,5 +1,5 @@
 -- How reading the commands of a piece stops.
-use Rattle.std.specs.Prelude.{◌≡◌, ◌⊎◌, ℕ, List, ◌++◌, true, false, Option, Some, None, Result, Ok, Err}
+use Rattle.std.specs.Prelude.{◌≡◌, ◌⊎◌, ℕ, List, ◌++◌, Bool, true, false, Option, Some, None, Result, Ok, Err}
 use Rattle.devices.specs.Devices.{SinkState, TakesBytes, TakesPart, TakesThenFails}
 use Rattle.bin_stripes.specs.Passes.{PassState}
 use Rattle.resp.specs.Grammar.{IsBegun, IsFaulty}
@@ -21,24 +21,24 @@ abbrev pub Stops : Option NextFault → TalkState → List ℕ → Type 0
 Stops fault talk rest = (talk.is_over ≡ true) ⊎ ((talk.is_over ≡ false) × IsLast fault rest)
 
 -- commands were answered, as far as there were some
-pub record AnswersAll (now : ℕ) (before after : SinkState) (talk : TalkState) (old : PassState) (bytes : List ℕ) (fault : Option NextFault) (next : TalkState)
+pub record AnswersAll (now : ℕ) (refuses : Bool) (before after : SinkState) (talk : TalkState) (old : PassState) (bytes : List ℕ) (fault : Option NextFault) (next : TalkState)
     (new : PassState) (rest : List ℕ) : Type 0 where
   pub written : List ℕ
   pub taken : TakesBytes before after written
-  pub some : AnswersSome now talk old bytes written next new rest
+  pub some : AnswersSome now refuses talk old bytes written next new rest
   pub stops : Stops fault next rest
 
 -- commands were answered, and then a write failed
-pub record FailsAt (now : ℕ) (before after : SinkState) (talk : TalkState) (old : PassState) (bytes : List ℕ) (next : TalkState) (new : PassState) : Type 0 where
+pub record FailsAt (now : ℕ) (refuses : Bool) (before after : SinkState) (talk : TalkState) (old : PassState) (bytes : List ℕ) (next : TalkState) (new : PassState) : Type 0 where
   pub written : List ℕ
   pub last : TalkState
   pub between : PassState
   pub rest : List ℕ
-  pub some : AnswersSome now talk old bytes written last between rest
+  pub some : AnswersSome now refuses talk old bytes written last between rest
   pub said : Said
   pub behind : List ℕ
   pub rest_is : rest ≡ said.read ++ behind
-  pub answers : AnswersSaid now last between said next new
+  pub answers : AnswersSaid now refuses last between said next new
   pub part : List ℕ
   pub cut : IsPart part said.written
   pub taken : TakesThenFails before after (written ++ part)
@@ -69,14 +69,14 @@ TellsLast (Err end.WriteFailed) before after rest talk next = FailsEnd before af
 -- ---- all of it
 
 -- these bytes are answered, and the answers were written
-abbrev pub TakesAnswers : ℕ → SinkState → SinkState → TalkState → PassState → List ℕ → TalkState → PassState → Type 0
-TakesAnswers now before after talk old bytes next new =
-    (written : List ℕ) × TakesBytes before after written × AnswersBytes now talk old bytes written next new
+abbrev pub TakesAnswers : ℕ → Bool → SinkState → SinkState → TalkState → PassState → List ℕ → TalkState → PassState → Type 0
+TakesAnswers now refuses before after talk old bytes next new =
+    (written : List ℕ) × TakesBytes before after written × AnswersBytes now refuses talk old bytes written next new
 
 -- what came of these bytes, by what was returned: the same
-abbrev pub Taken : ℕ → Result (Unit {0}) TalkEnd → SinkState → SinkState → TalkState → PassState → List ℕ → TalkState → PassState → Type 0
-Taken now (Ok _) before after talk old bytes next new = (next.is_over ≡ false) × TakesAnswers now before after talk old bytes next new
-Taken now (Err end.Over) before after talk old bytes next new = (next.is_over ≡ true) × TakesAnswers now before after talk old bytes next new
-Taken now (Err end.NoMemory) before after talk old bytes next new = ⊥
-Taken now (Err end.WriteFailed) before after talk old bytes next new =
-    (written : List ℕ) × TakesThenFails before after written × BreaksBytes now talk old bytes written next new
+abbrev pub Taken : ℕ → Bool → Result (Unit {0}) TalkEnd → SinkState → SinkState → TalkState → PassState → List ℕ → TalkState → PassState → Type 0
+Taken now refuses (Ok _) before after talk old bytes next new = (next.is_over ≡ false) × TakesAnswers now refuses before after talk old bytes next new
+Taken now refuses (Err end.Over) before after talk old bytes next new = (next.is_over ≡ true) × TakesAnswers now refuses before after talk old bytes next new
+Taken now refuses (Err end.NoMemory) before after talk old bytes next new = ⊥
+Taken now refuses (Err end.WriteFailed) before after talk old bytes next new =
+    (written : List ℕ) × TakesThenFails before after written × BreaksBytes now refuses talk old bytes written next new

@@ -1,5 +1,5 @@
 -- A talk with one client: how each piece of its bytes is taken.
-use Rattle.std.specs.Prelude.{◌≡◌, ◌⊎◌, ℕ, List, [], ◌∷◌, ◌++◌, flat_map, true, false}
+use Rattle.std.specs.Prelude.{◌≡◌, ◌⊎◌, ℕ, List, [], ◌∷◌, ◌++◌, flat_map, Bool, true, false}
 use Rattle.bin_stripes.specs.Passes.{PassState}
 use Rattle.resp.specs.Grammar.{Spells, IsIgnored, IsBegun, IsFaulty}
 use Rattle.resp.specs.Replies.{error_bytes}
@@ -15,13 +15,13 @@ pub record Said : Type 0 where
   pub read : List ℕ
   pub written : List ℕ
 
--- over the time at which the calls are made
-module _ (now : ℕ) where
+-- over the time at which the calls are made, and whether changes are refused then
+module _ (now : ℕ) (refuses : Bool) where
   -- what was read is ignored, or is a command that is answered so
   abbrev pub AnswersSaid : TalkState → PassState → Said → TalkState → PassState → Type 0
   AnswersSaid talk old said next new =
       (IsIgnored said.read × (said.written ≡ []) × (next ≡ talk) × (new ≡ old))
-      ⊎ ((words : List (List ℕ)) × Spells words said.read × AnswersWords now talk old words said.written next new)
+      ⊎ ((words : List (List ℕ)) × Spells words said.read × AnswersWords now refuses talk old words said.written next new)
 
   -- one after the other, as long as the talk is not over
   abbrev pub AnswersEach : TalkState → PassState → List Said → TalkState → PassState → Type 0
@@ -57,14 +57,14 @@ Ends (faulty fault) rest talk written next =
     IsFaulty fault rest × (talk.is_over ≡ false) × (written ≡ error_bytes (fault_message fault)) × (next ≡ ended talk)
 Ends no_memory rest talk written next = (talk.is_over ≡ false) × (written ≡ no_memory_line) × (next ≡ ended talk)
 
--- over the time at which the calls are made
-module _ (now : ℕ) where
+-- over the time at which the calls are made, and whether changes are refused then
+module _ (now : ℕ) (refuses : Bool) where
   -- commands that begin the bytes are answered, and what is told then; no command begins the rest
   pub record AnswersBytes (talk : TalkState) (old : PassState) (bytes written : List ℕ) (next : TalkState) (new : PassState) : Type 0 where
     pub last : TalkState
     pub before : List ℕ
     pub rest : List ℕ
-    pub some : AnswersSome now talk old bytes before last new rest
+    pub some : AnswersSome now refuses talk old bytes before last new rest
     pub ending : Ending
     pub tail : List ℕ
     pub ends : Ends ending rest last tail next
@@ -74,7 +74,7 @@ module _ (now : ℕ) where
   abbrev pub AnswersNext : TalkState → PassState → List ℕ → List ℕ → TalkState → PassState → Type 0
   AnswersNext talk old rest whole next new =
       ((said : Said) × (behind : List ℕ) × (mid : TalkState) × (rest ≡ said.read ++ behind) × (whole ≡ said.written)
-      × AnswersSaid now talk old said mid new × (next ≡ ended mid))
+      × AnswersSaid now refuses talk old said mid new × (next ≡ ended mid))
       ⊎ ((ending : Ending) × Ends ending rest talk whole next × (new ≡ old))
 
   -- the same, but the answers break off: one command was made, or an end told, whose answer is not wholly written, and none after
@@ -84,7 +84,7 @@ module _ (now : ℕ) where
     pub between : PassState
     pub before : List ℕ
     pub rest : List ℕ
-    pub some : AnswersSome now talk old bytes before last between rest
+    pub some : AnswersSome now refuses talk old bytes before last between rest
     pub whole : List ℕ
     pub answers : AnswersNext last between rest whole next new
     pub part : List ℕ

@@ -15,6 +15,7 @@ ghost use Rattle.redis_service.specs.Stops.{Stops, AnswersAll, FailsAt, TellsLas
 ghost use Rattle.redis_service.specs.Talks.{AnswersPiece, BreaksPiece};
 
 use crate::calls::MapAt;
+use crate::changing::{NOT_KEPT, is_refused};
 use crate::clients::{answer_clients, tell_of};
 use crate::connection::answer_connection;
 use crate::keyed::answer_key;
@@ -406,12 +407,15 @@ impl<'a, 's> RedisDesk<'a, 's> {
         ensures numbers { pass.new.view.numbers ≡ pass.old.view.numbers }
         ensures number { talk.new.number ≡ talk.old.number }
         ensures answers { (written : List ℕ) × Sends result (W.state sink.old) (W.state sink.new) written
-            × AnswersWords moment.now.time talk.old pass.old (texts words.now) written talk.new pass.new }
+            × AnswersWords moment.now.time moment.now.refuses talk.old pass.old (texts words.now) written talk.new pass.new }
     {
         let read = read(&mut self.noted, talk, words, moment.time);
         self.state.counts.count_command(self.noted as usize);
         match read {
             Ok(command) => {
+                if is_refused(moment.refuses, &command) {
+                    return put_error(sink, NOT_KEPT);
+                }
                 let server = self.state.server;
                 let timer = begin(server.slow(), &command);
                 let sent = self.answer_command(moment, pass, talk, &command, sink);
@@ -439,8 +443,8 @@ impl<'a, 's> RedisDesk<'a, 's> {
         ensures passes { pass.new.view.passes ≡ pass.old.view.passes }
         ensures numbers { pass.new.view.numbers ≡ pass.old.view.numbers }
         ensures number { talk.new.number ≡ talk.old.number }
-        ensures ok { IfOk result (λ fault. AnswersAll moment.now.time (W.state sink.old) (W.state sink.new) talk.old pass.old reader.old.rest.now fault talk.new pass.new reader.new.rest.now) }
-        ensures err { OnErr result (FailsAt moment.now.time (W.state sink.old) (W.state sink.new) talk.old pass.old reader.old.rest.now talk.new pass.new) }
+        ensures ok { IfOk result (λ fault. AnswersAll moment.now.time moment.now.refuses (W.state sink.old) (W.state sink.new) talk.old pass.old reader.old.rest.now fault talk.new pass.new reader.new.rest.now) }
+        ensures err { OnErr result (FailsAt moment.now.time moment.now.refuses (W.state sink.old) (W.state sink.new) talk.old pass.old reader.old.rest.now talk.new pass.new) }
     {
         while !talk.is_over() {
             match reader.next() {
@@ -469,8 +473,8 @@ impl<'a, 's> RedisDesk<'a, 's> {
         ensures passes { pass.new.view.passes ≡ pass.old.view.passes }
         ensures numbers { pass.new.view.numbers ≡ pass.old.view.numbers }
         ensures number { talk.new.number ≡ talk.old.number }
-        ensures ok { IfOk result (λ left. AnswersAll moment.now.time (W.state sink.old) (W.state sink.new) talk.old pass.old bytes.now left.0 talk.new pass.new left.1.now) }
-        ensures err { OnErr result (FailsAt moment.now.time (W.state sink.old) (W.state sink.new) talk.old pass.old bytes.now talk.new pass.new) }
+        ensures ok { IfOk result (λ left. AnswersAll moment.now.time moment.now.refuses (W.state sink.old) (W.state sink.new) talk.old pass.old bytes.now left.0 talk.new pass.new left.1.now) }
+        ensures err { OnErr result (FailsAt moment.now.time moment.now.refuses (W.state sink.old) (W.state sink.new) talk.old pass.old bytes.now talk.new pass.new) }
     {
         let arena = Bump::new(self.alloc);
         let mut reader = Reader::new(self.alloc, bytes, &arena);
@@ -496,7 +500,7 @@ impl<'a, 's> RedisDesk<'a, 's> {
         ensures passes { pass.new.view.passes ≡ pass.old.view.passes }
         ensures numbers { pass.new.view.numbers ≡ pass.old.view.numbers }
         ensures number { talk.new.number ≡ talk.old.number }
-        ensures taken { Taken moment.now.time result (W.state sink.old) (W.state sink.new) talk.old pass.old bytes.now talk.new pass.new }
+        ensures taken { Taken moment.now.time moment.now.refuses result (W.state sink.old) (W.state sink.new) talk.old pass.old bytes.now talk.new pass.new }
     {
         let Ok((fault, rest)) = self.answer_bytes(moment, pass, talk, bytes, sink) else {
             talk.end(self.alloc);
@@ -522,7 +526,7 @@ impl<'a, 's> RedisDesk<'a, 's> {
         ensures passes { pass.new.view.passes ≡ pass.old.view.passes }
         ensures numbers { pass.new.view.numbers ≡ pass.old.view.numbers }
         ensures number { talk.new.number ≡ talk.old.number }
-        ensures taken { Taken moment.now.time result (W.state sink.old) (W.state sink.new) talk.old pass.old held.items talk.new pass.new }
+        ensures taken { Taken moment.now.time moment.now.refuses result (W.state sink.old) (W.state sink.new) talk.old pass.old held.items talk.new pass.new }
     {
         let Ok((fault, rest)) = self.answer_bytes(moment, pass, talk, &held, sink) else {
             talk.end(self.alloc);
@@ -536,8 +540,8 @@ impl<'a, 's> RedisDesk<'a, 's> {
     }
 
     /// Answers the commands that this piece completes, in order, each into the sink before it looks at the next one. Their calls are
-    /// made at the time of this moment. Keeps what follows the last whole command. An `Err` says why the talk ended. Waits until the
-    /// stripes of the commands' keys are free.
+    /// made at the time of this moment; if it refuses changes, commands that may change the map make none. Keeps what follows the last
+    /// whole command. An `Err` says why the talk ended. Waits until the stripes of the commands' keys are free.
     pub fn take<H: Wait, W: Sink>(
         &mut self,
         moment: &Moment<'_, H>,
@@ -556,17 +560,17 @@ impl<'a, 's> RedisDesk<'a, 's> {
         // The piece was taken, and all its commands are answered.
         ensures ok { OnOk result ((talk.new.is_over ≡ false) × ((written : List ℕ)
             × TakesBytes (W.state sink.old) (W.state sink.new) written
-            × AnswersPiece moment.now.time talk.old pass.old piece.now written talk.new pass.new)) }
+            × AnswersPiece moment.now.time moment.now.refuses talk.old pass.old piece.now written talk.new pass.new)) }
         // The client asked for the end, or its bytes have a fault, whose text ends the answers.
         ensures over { result ≡ Err TalkEnd.Over → (talk.new.is_over ≡ true) × ((written : List ℕ)
             × TakesBytes (W.state sink.old) (W.state sink.new) written
-            × AnswersPiece moment.now.time talk.old pass.old piece.now written talk.new pass.new) }
+            × AnswersPiece moment.now.time moment.now.refuses talk.old pass.old piece.now written talk.new pass.new) }
         ensures memory { result ≡ Err TalkEnd.NoMemory
             → (talk.new ≡ talk.old) × (pass.new ≡ pass.old) × (W.state sink.new ≡ W.state sink.old) }
         // One command was made whose answer is not wholly written, and none after it.
         ensures write { result ≡ Err TalkEnd.WriteFailed → ((written : List ℕ)
             × TakesThenFails (W.state sink.old) (W.state sink.new) written
-            × BreaksPiece moment.now.time talk.old pass.old piece.now written talk.new pass.new) }
+            × BreaksPiece moment.now.time moment.now.refuses talk.old pass.old piece.now written talk.new pass.new) }
     {
         if talk.rest.is_empty() {
             return self.take_bytes(moment, pass, talk, piece, sink);

@@ -5,10 +5,12 @@
 //! given, so no command sees an entry whose time is over. What each command does, the calls that it makes, in order, and its reply, is in
 //! five tables: `specs/Answers.antt` (keys), `specs/Walks.antt` (the whole map), `specs/Programs.antt` (scripts and locks),
 //! `specs/Connections.antt` and `specs/Saving.antt` (the server). A command of several keys is one event for each. Calls wait until a stripe is free.
+//! If the moment says so, commands that may change the map are refused (`specs/Changing.antt`).
 #![tactic(auto)]
 
 mod calls;
 mod changes;
+mod changing;
 mod clients;
 mod connection;
 mod counted;

@@ -1,5 +1,5 @@
 //! What all threads of a server know of it.
-ghost use Rattle.std.specs.Prelude.{◌≡◌, IfOk, None};
+ghost use Rattle.std.specs.Prelude.{◌≡◌, false, is_some, IfOk, IsTrue, None};
 ghost use Rattle.server_state.specs.Passwords.{lent};
 
 use crate::clients::ServerClients;
@@ -18,6 +18,8 @@ use std::sync::atomic::{AtomicBool, Ordering};
 #[derive(Drop)]
 pub struct ServerState {
     keeps: bool,
+    /// Whether requests that may change the map are refused while saves fail.
+    is_strict: bool,
     began: u64,
     saves: Saves,
     fails: AtomicBool,
@@ -54,6 +56,7 @@ impl ServerState {
         ensures keeps { IfOk result (λ state. state.keeps ≡ keeps) }
         ensures began { IfOk result (λ state. state.began ≡ began) }
         ensures open { IfOk result (λ state. state.password ≡ None) }
+        ensures strict { IfOk result (λ state. state.is_strict ≡ false) }
     {
         let mut all = Vec::new(alloc);
         for _ in 0..workers {
@@ -61,6 +64,7 @@ impl ServerState {
         }
         Ok(ServerState {
             keeps,
+            is_strict: false,
             began,
             saves: Saves::new(),
             fails: AtomicBool::new(false),
@@ -78,15 +82,27 @@ impl ServerState {
     /// The same server, whose clients of commands have to show this password first, if there is one.
     pub fn with_password(self, password: Option<Password>) -> ServerState
         ensures password { result.password ≡ password }
+        ensures strict { result.is_strict ≡ self.is_strict }
         ensures keeps { result.keeps ≡ self.keeps }
         ensures began { result.began ≡ self.began }
     {
         ServerState { password, ..self }
     }
 
+    /// The same server, which refuses requests that may change the map while saves fail, or not.
+    pub fn with_strict(self, is_strict: bool) -> ServerState
+        ensures strict { result.is_strict ≡ is_strict }
+        ensures password { result.password ≡ self.password }
+        ensures keeps { result.keeps ≡ self.keeps }
+        ensures began { result.began ≡ self.began }
+    {
+        ServerState { is_strict, ..self }
+    }
+
     /// The same server, which keeps commands that take long in this log.
     pub fn with_slow_log(self, slow: SlowLog) -> ServerState
         ensures password { result.password ≡ self.password }
+        ensures strict { result.is_strict ≡ self.is_strict }
         ensures keeps { result.keeps ≡ self.keeps }
         ensures began { result.began ≡ self.began }
     {
@@ -97,6 +113,7 @@ impl ServerState {
     pub fn with_session_bytes(self, session_bytes: u64) -> ServerState
         ensures bytes { result.session_bytes ≡ session_bytes }
         ensures password { result.password ≡ self.password }
+        ensures strict { result.is_strict ≡ self.is_strict }
         ensures keeps { result.keeps ≡ self.keeps }
         ensures began { result.began ≡ self.began }
     {
@@ -181,6 +198,20 @@ impl ServerState {
     /// Tests whether the last save could not be written.
     pub fn is_failing(&self) -> bool {
         self.fails.load(Ordering::SeqCst)
+    }
+
+    /// Returns the server, if it is strict.
+    pub fn if_strict(&self) -> Option<&ServerState>
+        ensures { is_some result ≡ self.now.is_strict }
+    {
+        if self.is_strict { Some(self) } else { None }
+    }
+
+    /// Tests whether requests that may change the map are refused now: the last save could not be written, and the server is strict.
+    pub fn refuses_changes(&self) -> bool
+        ensures { IsTrue result → IsTrue self.now.is_strict }
+    {
+        self.is_strict && self.is_failing()
     }
 
     /// Returns when the last save was written; 0 if none was.

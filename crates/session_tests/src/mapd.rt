@@ -27,6 +27,7 @@ fn asked(
         memory: None,
         keep: None,
         keep_seconds: 1,
+        keep_strict: false,
         password_file: None,
         metrics: None,
         slowlog_microseconds: None,

@@ -1,5 +1,5 @@
 -- The meaning of requests, and the responses that depend on no state. Numbers and refusals are this map's profile.
-use Rattle.std.specs.Prelude.{◌≡◌, ℕ, List, [], ◌∷◌, Option, Some, None}
+use Rattle.std.specs.Prelude.{◌≡◌, ℕ, Bool, true, false, List, [], ◌∷◌, Option, Some, None}
 use Rattle.bpf_model.specs.declared.input.Sizes.{Sizes}
 use Rattle.verifier.specs.Checked.{Checked}
 use Rattle.atomic_methods.specs.Invocations.{Invocation, on_key, get, put, put_if_absent, remove, remove_if, replace, replace_if, compute, compute_if_absent, compute_if_present, merge}
@@ -64,6 +64,15 @@ named (ComputeIfAbsent key number arg) = Some number
 named (ComputeIfPresent key number arg) = Some number
 named (Merge key value number) = Some number
 named request = None
+
+-- the request may change the map or the programs
+abbrev pub may_change : Request → Bool
+may_change (Hello version) = false
+may_change (Get key) = false
+may_change (Search number arg threshold) = false
+may_change (ForEach number arg threshold) = false
+may_change Count = false
+may_change request = true
 
 -- the request names a program and is a call
 abbrev pub NamesProgram : Request → Type 0

@@ -1,7 +1,7 @@
 //! Requests for calls, as calls of the map's methods.
 ghost use Rattle.std.specs.Prelude.{◌≡◌, MatchOption, option_copied};
 ghost use Rattle.atomic_methods.specs.Invocations.{invocation_of};
-ghost use Rattle.sessions.specs.Asking.{call, unknown, asked, named, IsCall, NamesProgram};
+ghost use Rattle.sessions.specs.Asking.{call, unknown, asked, may_change, named, IsCall, NamesProgram};
 
 use atomic_methods::Call;
 use bpf_model::Value;
@@ -18,6 +18,20 @@ pub fn named_program(request: &Request) -> Option<u64>
         RequestView::ComputeIfPresent { program, .. } => Some(program),
         RequestView::Merge { program, .. } => Some(program),
         _ => None,
+    }
+}
+
+/// Tests whether a request may change the map or the programs.
+pub fn may_change(request: &Request) -> bool
+    ensures { result ≡ may_change request.now }
+{
+    match request.view() {
+        RequestView::Hello { .. } => false,
+        RequestView::Get { .. } => false,
+        RequestView::Search { .. } => false,
+        RequestView::ForEach { .. } => false,
+        RequestView::Count => false,
+        _ => true,
     }
 }
 

@@ -14,7 +14,7 @@ mod session;
 mod unsent;
 
 pub use alone::{Alone, session_alone};
-pub use calls::{argument_of, call_of, named_program};
+pub use calls::{argument_of, call_of, may_change, named_program};
 pub use owed_answers::OwedAnswers;
 pub use responses::{answer_to, may_be_sent, no_memory, program_sent, unknown_program};
 pub use session::send::{AtOnce, Replies, refuse};

@@ -2,7 +2,7 @@ use Rattle.std.proofs.Common.{◌≡◌, ◌∙◌, [], refl, sym, ap, subst, Al
 use Rattle.atomic_table.specs.Seated.{TableId}
 use Rattle.bin_stripes.specs.declared.pass.Pass.{Pass}
 use Rattle.crews.specs.Crews.{team_numbers}
-use Rattle.crews.specs.Lives.{Known, known, known_of, Life}
+use Rattle.crews.specs.Lives.{Known, known, known_at, Life}
 use Rattle.crews.specs.Stations.{Station}
 use Rattle.slab.specs.Slab.{slab_len}
 use Rattle.crews.proofs.CountLemmas.{counts_by, counts_on}
@@ -12,7 +12,7 @@ use Rattle.crews.proofs.attending.attend.Goals as goal
 
 pub attend_all-requires-clause-attended : goal.attend_all-requires-clause-attended
 attend_all-requires-clause-attended g c κs within =
-    let start = known_of c.args.crew in
+    let start = known_at c.args.state.now.is_strict c.args.crew in
     let first = c.begun-attendant.result in
     let is = c.begun-attendant.ensures in
     (start, [], begins g.C.Channel.state g.P.Clients.gave c.args.worker.now.registry.now c.args.state.now.password start (known first.room.serving) first.came is.knows is.came first.seats is.empty)
@@ -27,7 +27,7 @@ attend_all-requires-clause-desk g c κs within =
 
 pub drop_all-requires : goal.drop_all-requires
 drop_all-requires g c =
-    let start = known_of c.args.crew in
+    let start = known_at c.args.state.now.is_strict c.args.crew in
     let first = c.begun-attendant.result in
     let is = c.begun-attendant.ensures in
     let (more, now) = c.attend_all.ensures.attended start [] (begins g.C.Channel.state g.P.Clients.gave c.args.worker.now.registry.now c.args.state.now.password start (known first.room.serving) first.came is.knows is.came first.seats is.empty) in
@@ -35,7 +35,7 @@ drop_all-requires g c =
 
 pub returns-clause-life : goal.returns-clause-life
 returns-clause-life g c =
-    let start = known_of c.args.crew in
+    let start = known_at c.args.state.now.is_strict c.args.crew in
     let first = c.begun-attendant.result in
     let is = c.begun-attendant.ensures in
     let (more, now) = c.attend_all.ensures.attended start [] (begins g.C.Channel.state g.P.Clients.gave c.args.worker.now.registry.now c.args.state.now.password start (known first.room.serving) first.came is.knows is.came first.seats is.empty) in
@@ -43,13 +43,13 @@ returns-clause-life g c =
     let end = c.drop_all.new.self in (
       more,
       end.came,
-      subst (λ (k : Known). Life g.C.Channel.state g.P.Clients.gave c.args.worker.now.registry.now c.args.state.now.password start more k end.came) (sym (known_same (record { pass = c.serving.inside.pass; team = c.in-Ok.team.passes.items }) (known end.room.serving)
-          (ap (λ (t : Station). t.pass) c.serving.view_is) (ap (λ ps. ps.items) c.in-Ok.ensures.team ∙ ap (λ (t : Station). t.team) c.serving.view_is))) life,
+      subst (λ (k : Known). Life g.C.Channel.state g.P.Clients.gave c.args.worker.now.registry.now c.args.state.now.password start more k end.came) (sym (known_same (record { pass = c.serving.inside.pass; team = c.in-Ok.team.passes.items; is_strict = c.args.state.now.is_strict }) (known end.room.serving)
+          (ap (λ (t : Station). t.pass) c.serving.view_is) (ap (λ ps. ps.items) c.in-Ok.ensures.team ∙ ap (λ (t : Station). t.team) c.serving.view_is) (sym life.numbers.strict))) life,
     )
 
 pub returns-clause-crew : goal.returns-clause-crew
 returns-clause-crew g c =
-    let start = known_of c.args.crew in
+    let start = known_at c.args.state.now.is_strict c.args.crew in
     let first = c.begun-attendant.result in
     let is = c.begun-attendant.ensures in
     let (more, now) = c.attend_all.ensures.attended start [] (begins g.C.Channel.state g.P.Clients.gave c.args.worker.now.registry.now c.args.state.now.password start (known first.room.serving) first.came is.knows is.came first.seats is.empty) in
@@ -64,7 +64,7 @@ returns-clause-crew g c =
 
 pub returns-clause-same : goal.returns-clause-same
 returns-clause-same g c =
-    let start = known_of c.args.crew in
+    let start = known_at c.args.state.now.is_strict c.args.crew in
     let first = c.begun-attendant.result in
     let is = c.begun-attendant.ensures in
     let (more, now) = c.attend_all.ensures.attended start [] (begins g.C.Channel.state g.P.Clients.gave c.args.worker.now.registry.now c.args.state.now.password start (known first.room.serving) first.came is.knows is.came first.seats is.empty) in
@@ -83,7 +83,7 @@ returns-clause-there g c =
     let end = slab_len c.drop_all.new.self.seats in
     let first = c.begun-attendant.result in
     let is = c.begun-attendant.ensures in
-    let (more, now) = c.attend_all.ensures.attended (known_of c.args.crew) [] (begins g.C.Channel.state g.P.Clients.gave c.args.worker.now.registry.now c.args.state.now.password (known_of c.args.crew) (known first.room.serving) first.came is.knows is.came first.seats is.empty) in
+    let (more, now) = c.attend_all.ensures.attended (known_at c.args.state.now.is_strict c.args.crew) [] (begins g.C.Channel.state g.P.Clients.gave c.args.worker.now.registry.now c.args.state.now.password (known_at c.args.state.now.is_strict c.args.crew) (known first.room.serving) first.came is.knows is.came first.seats is.empty) in
     let none = ap (count_by is_some) c.begun-attendant.ensures.empty in
     counts_by there c.args.clients.now c.drop_all.new.clients start end 0 0 0 (omega (arith, none)) (omega (arith, c.drop_all.ensures.empty))
-    (counts_on there c.args.clients.now c.attend_all.new.clients c.drop_all.new.clients start mid end c.attend_all.ensures.there (c.drop_all.ensures.there c.args.worker.now.registry.now c.args.state.now.password (known_of c.args.crew) more now))
+    (counts_on there c.args.clients.now c.attend_all.new.clients c.drop_all.new.clients start mid end c.attend_all.ensures.there (c.drop_all.ensures.there c.args.worker.now.registry.now c.args.state.now.password (known_at c.args.state.now.is_strict c.args.crew) more now))

@@ -7,7 +7,8 @@ use Rattle.map_commands.proofs.words.bpfmap_command.Goals as goal
 pub returns : goal.returns
 returns c =
     let named = ap app_of_fields c.version.ensures ∙ ap (on_top (λ s. record s { has_version = true })) c.plain_command.ensures.app in
-    let required = ap app_of_fields c.subcommand_required.ensures ∙ ap (on_top (λ s. record s { subcommand_required = true })) named in
+    let told = ap app_of_fields c.after_help.ensures ∙ named in
+    let required = ap app_of_fields c.subcommand_required.ensures ∙ ap (on_top (λ s. record s { subcommand_required = true })) told in
     let helped = ap app_of_fields c.arg_required_else_help.ensures ∙ ap (on_top (λ s. record s { arg_required_else_help = true })) required in
     let bare = ap app_of_fields c.disable_help_subcommand.ensures ∙ ap (on_top (λ s. record s { disable_help_subcommand = true })) helped in
     let asm = c.in_ok-subcommand.ensures.shape c.plain_command-asm.ensures.local ∙ ap₂ with_subcommand bare (ap (λ (a : App). a.top) c.plain_command-asm.ensures.app) in

@@ -21,8 +21,8 @@ crews_of-requires-clause-room g c =
 
 pub returns-clause-lived : goal.returns-clause-lived
 returns-clause-lived g c =
-    subst (λ (all : List Crew). HaveAttended c.args.worker.now.registry.now c.args.entrance.now.state.now.password c.args.crews.items all) (sym c.crews_of.ensures)
-    (crews_attended c.args.worker.now.registry.now c.args.entrance.now.state.now.password c.args.crews.items c.in_ok-posts.posts.items c.in_ok-attended.attended.items c.in_ok-posts.ensures c.in_ok-attended.ensures.same c.in_ok-attended.ensures.lived)
+    subst (λ (all : List Crew). HaveAttended c.args.worker.now.registry.now c.args.entrance.now.state.now.password c.args.entrance.now.state.now.is_strict c.args.crews.items all) (sym c.crews_of.ensures)
+    (crews_attended c.args.worker.now.registry.now c.args.entrance.now.state.now.password c.args.entrance.now.state.now.is_strict c.args.crews.items c.in_ok-posts.posts.items c.in_ok-attended.attended.items c.in_ok-posts.ensures c.in_ok-attended.ensures.same c.in_ok-attended.ensures.lived)
 
 pub returns-clause-map : goal.returns-clause-map
 returns-clause-map g c =

@@ -27,6 +27,7 @@ returns g c =
               idle = ap (λ limits. limits.idle) terms.limits ∙ asked.idle;
               slow = ap (λ limits. limits.slow) terms.limits ∙ asked.slow;
               memory = ap (λ limits. limits.session_bytes) terms.limits ∙ asked.memory;
+              strict = ap (λ limits. limits.is_strict) terms.limits ∙ asked.strict;
               password = terms.password ∙ c.requires.password;
               keeps = terms.keeps ∙ c.in-Ok.ensures.keeps;
               watches = terms.watches ∙ (c.of.ensures.there (watched ∙ sym asked.watcher) ∙ asked.watcher);

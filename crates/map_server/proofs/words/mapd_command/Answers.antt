@@ -26,4 +26,5 @@ returns c =
     let memory = c.in_ok-arg-12.ensures.shape c.range_option-6.ensures.local ∙ ap₂ with_rule seconds (c.range_option-6.ensures.rule ∙ ap (λ p. record (size_option (codes "memory")) { parser = Some p }) (narrowed _ _ _ _ 65535 c.value_parser-6.ensures c.new-7.ensures.start c.new-7.ensures.end refl c.range-6.ensures)) in
     let password = c.in_ok-arg-13.ensures.shape c.text_option-4.ensures.local ∙ ap₂ with_rule memory c.text_option-4.ensures.rule in
     let metrics = c.in_ok-arg-14.ensures.shape c.text_option-5.ensures.local ∙ ap₂ with_rule password c.text_option-5.ensures.rule in
-    IfOk-weaker c.arg-15.result _ _ (λ r h. h.shape c.size_option-4.ensures.local ∙ ap₂ with_rule metrics c.size_option-4.ensures.rule) c.arg-15.ensures
+    let slowlog = c.in_ok-arg-15.ensures.shape c.size_option-4.ensures.local ∙ ap₂ with_rule metrics c.size_option-4.ensures.rule in
+    IfOk-weaker c.arg-16.result _ _ (λ r h. h.shape c.flag_option.ensures.local ∙ ap₂ with_rule slowlog c.flag_option.ensures.rule) c.arg-16.ensures

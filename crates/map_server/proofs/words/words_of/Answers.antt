@@ -19,4 +19,5 @@ returns c = record {
   password_file = c.in_ok-given_text-4.ensures;
   metrics = c.in_ok-given_text-5.ensures;
   slowlog_microseconds = c.widened-5.ensures ∙ c.given_number-5.ensures;
+  keep_strict = c.is_given.ensures;
 }

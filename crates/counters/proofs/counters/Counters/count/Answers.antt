@@ -3,7 +3,7 @@ use Rattle.std.specs.Int.{w64, to_le_bytes}
 use Rattle.atomic_methods.specs.Invocations.{on_key, merge}
 use Rattle.atomic_methods.specs.Plans.{reply_by}
 use Rattle.bin_stripes.specs.Invoked.{Calls}
-use Rattle.counters.specs.Visits.{Counts, visit}
+use Rattle.counters.specs.Visits.{visit}
 use Rattle.counters.proofs.counters.Counters.count.Goals as goal
 
 pub returns-in-Some-Some-clause-ok : goal.returns-in-Some-Some-clause-ok

@@ -1,4 +1,4 @@
-use Rattle.std.proofs.Common.{◌++◌, ◌+◌, ◌∙◌, arith}
+use Rattle.std.proofs.Common.{◌++◌, ◌∙◌, arith}
 use Rattle.slab.specs.Slab.{slab_len, with_value}
 use Rattle.crews.specs.Lives.{known}
 use Rattle.crews.proofs.CountLemmas.{counts_by, counts_on, same_count}

@@ -14,4 +14,4 @@ pub returns-clause-attended : goal.returns-clause-attended
 returns-clause-attended g c registry password old turns attended =
     let s = c.args.self.now in
     let is = c.sweep-self.ensures in
-    has_swept g.C.Channel.state g.P.Clients.gave registry password old turns (known s.room.serving) (known c.sweep-self.new.self.serving) s.came c.now-self.result s.seats is.sweeps is.same is.numbers is.team attended
+    has_swept g.C.Channel.state g.P.Clients.gave registry password old turns (known s.room.serving) (known c.sweep-self.new.self.serving) s.came c.now-self.result s.seats is.sweeps is.same is.numbers is.team is.strict attended

@@ -1,4 +1,4 @@
-use Rattle.std.proofs.Common.{◌≡◌, ap, refl, subst, [], ◌∷◌, Some}
+use Rattle.std.proofs.Common.{◌≡◌, ap, refl, subst, [], ◌∷◌, Some, is_some}
 use Rattle.client_protocol.specs.Responses.{response_of}
 use Rattle.sessions.specs.Answering.{responses_of}
 use Rattle.sessions.specs.Asking.{asked, named}
@@ -26,7 +26,7 @@ returns-in-Ok g c hello =
 pub returns-in-Err : goal.returns-in-Err
 returns-in-Err g c hello =
     let s = c.self.inside in
-    let here : Station = record { pass = s.pass; team = s.team.items; tokens = tokens_of s.registry.now s.tokens.items } in
+    let here : Station = record { pass = s.pass; team = s.team.items; tokens = tokens_of s.registry.now s.tokens.items; is_strict = is_some s.strict } in
     let kept = tokens_of s.registry.now c.program_of.new.tokens.items in
     let responses = response_of c.in-Err.response ∷ [] in
     let is : named c.args.request.now ≡ Some c.in-Some.number = let a = c.named_program.ensures in let b = c.in-Some.is in cc in

@@ -1,4 +1,4 @@
-use Rattle.std.proofs.Common.{ℕ, ap, sym, refl, subst, List, [], ◌∷◌, Option, Some, inl, option_copied}
+use Rattle.std.proofs.Common.{ℕ, ap, sym, refl, subst, List, [], ◌∷◌, Option, Some, is_some, inl, option_copied}
 use Rattle.bin_stripes.specs.Passes.{stripes_of}
 use Rattle.bulk_walks.specs.Walks.{IsWalk, Walks, AllWalked, MayScan}
 use Rattle.client_protocol.specs.Responses.{response_of}
@@ -12,7 +12,7 @@ use Rattle.crews.proofs.serving.Serving.walk_by_team.Goals as goal
 pub returns-in-Err : goal.returns-in-Err
 returns-in-Err g c hello bytes =
     let s = c.self.inside in
-    let here : Station = record { pass = s.pass; team = s.team.items; tokens = tokens_of s.registry.now s.tokens.items } in
+    let here : Station = record { pass = s.pass; team = s.team.items; tokens = tokens_of s.registry.now s.tokens.items; is_strict = is_some s.strict } in
     let kept = tokens_of s.registry.now c.program_of.new.tokens.items in
     let responses = response_of c.in-Err.response ∷ [] in
     subst (λ (old : Station). AsksWithProgram hello old c.args.number (λ program. walk c.args.kind program (option_copied c.args.arg)) responses (keeping here kept)) c.self.view_is
@@ -29,7 +29,7 @@ returns g c hello bytes =
       kept = kept;
       finds = subst (λ (ts : KeptTokens). Finds ts c.args.number (Some c.in-Ok.program.now) kept) (ap (λ (t : Station). t.tokens) c.self.view_is) c.in-Ok.ensures.ok;
       meets = walked_by_team (λ n before after reply. IsWalk c.args.kind n c.in-Ok.program.now (option_copied c.args.arg) before after reply) (λ n before after. AllWalked n MayScan before after)
-          (keeping c.args.self.now kept) s.pass s.team.items kept s.map.now c.replace-team.result.items c.told-team.result.passes.items c.walk_map-team.result.0.passes.items c.heard.result.items
+          (keeping c.args.self.now kept) s.pass s.team.items kept (is_some s.strict) s.map.now c.replace-team.result.items c.told-team.result.passes.items c.walk_map-team.result.0.passes.items c.heard.result.items
           c.heard.new.pass c.walk_map-team.result.1 _ (sym (ap (λ (t : Station). keeping t kept) c.self.view_is)) c.self.invariant.0 (ap (λ v. v.items) c.replace-team.ensures.value) (ap (λ v. v.items) c.heard.ensures.passes)
           c.told-team.ensures.told walked c.heard.ensures.heard c.walk_map-team.ensures.map (c.answer_of.ensures bytes);
     })

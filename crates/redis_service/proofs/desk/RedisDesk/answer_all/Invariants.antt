@@ -12,7 +12,7 @@ invariant-loop-reader g l = record {
   numbers : l.pass.view.numbers ≡ l.fn.pass.view.numbers;
   number : l.talk.number ≡ l.fn.talk.number;
   some : (written : List ℕ) × TakesBytes (g.W.Sink.state l.fn.sink) (g.W.Sink.state l.sink) written
-      × AnswersSome l.fn.moment.time l.fn.talk l.fn.pass l.fn.reader.rest.now written l.talk l.pass l.reader.rest.now;
+      × AnswersSome l.fn.moment.time l.fn.moment.refuses l.fn.talk l.fn.pass l.fn.reader.rest.now written l.talk l.pass l.reader.rest.now;
 }
 
 abbrev pub decreases-loop-reader : goal.decreases-loop-reader
