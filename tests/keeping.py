@@ -48,6 +48,7 @@ from keeping_load import Changes, Kept, Named, NotStarted, Player, State, kept  
 from kept_format import Batch, Change  # noqa: E402
 from wire import Wrong, same  # noqa: E402
 
+BPFMAP = ROOT / "crates/bpfmap/out/bpfmap"
 CLIENTS = 16
 # Entries that stay as they are, so that the map is larger than what changes.
 BALLAST = {b"ballast %d" % number: State(b"%d" % number * 20) for number in range(5000)}
@@ -448,10 +449,17 @@ def refusal_of(given: argparse.Namespace, file: Path, *options: str) -> Optional
         return line_on(file, refused.lines)
 
 
+def reported(program: Path, word: str, file: Path) -> subprocess.CompletedProcess[bytes]:
+    """What the program says of the file."""
+    return subprocess.run([str(program), word, str(file)], stdin=subprocess.DEVNULL, capture_output=True, timeout=wire.PATIENCE, check=False)
+
+
 def report_of(given: argparse.Namespace, file: Path) -> Optional[str]:
-    """Why `mapd --kept` refuses the file, as it says; nothing if it finds the file sound."""
-    words = [str(given.program), "--kept", str(file)]
-    done = subprocess.run(words, stdin=subprocess.DEVNULL, capture_output=True, timeout=wire.PATIENCE, check=False)
+    """Why `mapd --kept` refuses the file, as it says; nothing if it finds the file sound. `bpfmap kept` must print the same, if it is built."""
+    done = reported(given.program, "--kept", file)
+    if BPFMAP.exists():
+        again = reported(BPFMAP, "kept", file)
+        same("what bpfmap kept says", (again.returncode, again.stdout, again.stderr), (done.returncode, done.stdout, done.stderr))
     if done.returncode == 0:
         same("the last line", done.stdout.splitlines()[-1:], [b"sound"])
         return None

@@ -1,6 +1,7 @@
 //! The program `bpfmap`: runs its command line over the process's three streams.
 #![tactic(auto)]
 
+use kept_report::{kept_path, tell_kept};
 use map_commands::{StreamSink, StreamSource, bpfmap_on, tell_unread_words};
 use std::process::ExitCode;
 use std::sync::Wait;
@@ -10,9 +11,12 @@ fn status<H: Wait>(rt: &HostRuntime, waiting: &H) -> io::Result<u8> {
     let alloc = rt.alloc();
     let words: Vec<String> = env::args(rt)?.collect(alloc)?;
     let words: Vec<&str> = words.iter().map(|word| word.as_str()).collect(alloc)?;
-    let mut reader = StreamSource::new(rt.stdin());
     let mut writer = StreamSink::new(rt.stdout());
     let mut errors = StreamSink::new(rt.stderr());
+    if let Some(path) = kept_path(words.as_slice(), "kept") {
+        return Ok(tell_kept(rt, path, &mut writer, &mut errors));
+    }
+    let mut reader = StreamSource::new(rt.stdin());
     Ok(bpfmap_on(
         waiting,
         alloc,

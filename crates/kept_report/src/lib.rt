@@ -37,6 +37,15 @@ impl From<AllocError> for Refusal {
     }
 }
 
+/// Returns the file that this word names, if these are the words of a program, with no others.
+pub fn kept_path<'a>(words: &[&'a str], word: &str) -> Option<&'a str> {
+    if words.len() == 3 && words[1] == word {
+        Some(words[2])
+    } else {
+        None
+    }
+}
+
 /// Appends the lines on the entries.
 fn tell_entries(
     alloc: Global,

@@ -1,7 +1,7 @@
 //! The program `mapd`: runs its command line over the process's output and error streams and the network.
 #![tactic(auto)]
 
-use kept_report::tell_kept;
+use kept_report::{kept_path, tell_kept};
 use map_server::{HostFiles, StreamSink, mapd_on, tell_unread_words};
 use std::net::Net;
 use std::process::ExitCode;
@@ -10,15 +10,6 @@ use std::rt::Clock;
 use std::sync::Wait;
 use std::thread::Threads;
 use std::{env, io};
-
-/// Returns the file that `--kept FILE` names, if these are the words.
-fn kept_path<'a>(words: &[&'a str]) -> Option<&'a str> {
-    if words.len() == 3 && words[1] == "--kept" {
-        Some(words[2])
-    } else {
-        None
-    }
-}
 
 fn status<H: Threads + Wait + Clock + RandomSource + Net + Sync>(
     rt: &HostRuntime,
@@ -29,7 +20,7 @@ fn status<H: Threads + Wait + Clock + RandomSource + Net + Sync>(
     let words: Vec<&str> = words.iter().map(|word| word.as_str()).collect(alloc)?;
     let mut writer = StreamSink::new(rt.stdout());
     let mut errors = StreamSink::new(rt.stderr());
-    if let Some(path) = kept_path(words.as_slice()) {
+    if let Some(path) = kept_path(words.as_slice(), "--kept") {
         return Ok(tell_kept(rt, path, &mut writer, &mut errors));
     }
     let files = HostFiles { rt };
