@@ -65,6 +65,12 @@ benchmark() {
         tail -1 | tr -d '"' | awk -F, '{ printf "%.1f %.3f\n", $2 / 1000, $7 }'
 }
 
+# Sets keys on a side without end, by the process `load`.
+set_on() {
+    redis-benchmark -p "${port[$1]}" -t set -n 1000000000 -r "$entries" -c 16 -P 16 -d 8 > "$work/beside" 2>&1 < /dev/null &
+    load=$!
+}
+
 median() { sort -n | sed -n $(((rounds + 1) / 2))p; }
 
 # A side, and a name of what was measured: the medians.
@@ -79,14 +85,13 @@ measure_merges() {
 }
 
 measure_loads() {
-    local side load
+    local side
     for _ in $(seq "$rounds"); do
         for side in "${sides[@]}"; do
             benchmark "$side" set "$requests" 16 16 >> "$work/$side.set"
-            benchmark "$side" set $((4 * requests)) 16 16 > "$work/beside" &
-            load=$!
+            set_on "$side"
             benchmark "$side" get $((requests / 20)) 8 1 >> "$work/$side.get"
-            kill "$load" 2> /dev/null || true
+            kill "$load"
             wait "$load" 2> /dev/null || true
             cut -d' ' -f2 "$work/$side.get" | sed 's/$/ x/' > "$work/$side.get99"
         done
