@@ -12,6 +12,7 @@ mod call;
 mod fault;
 mod methods;
 mod reply;
+mod stripe;
 mod striped;
 mod walk_reply;
 mod walks;

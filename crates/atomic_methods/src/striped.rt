@@ -13,12 +13,12 @@ ghost use Rattle.atomic_methods.specs.Whole.{stripe_at, all_entries, whole, AreS
 
 use crate::call::{Call, HashedCall, MAX_STRIPES, is_stripe_count};
 use crate::fault::OpenFault;
-use crate::methods;
 use crate::reply::{Reply, ReplyKind};
+use crate::stripe::Stripe;
 use crate::walk_reply::{WalkKind, WalkReply};
 use crate::walks::walk_entries;
 use crate::workspace::Workspace;
-use bins::{Bins, Counts, EntryList, HashedBins, SortedEntries};
+use bins::{Counts, EntryList, SortedEntries};
 use bpf_model::{Key, NoMemory, Value};
 use std::alloc::Global;
 use std::marker::Model;
@@ -34,7 +34,7 @@ pub struct Stopped {
 /// A table of one caller, in stripes by the hashes of the keys, with the workspace of its calls.
 #[derive(Drop)]
 pub struct Striped {
-    stripes: Vec<HashedBins>,
+    stripes: Vec<Stripe>,
     workspace: Workspace,
 }
 
@@ -90,7 +90,7 @@ impl Striped {
         let call = HashedCall::new(call);
         let stripe = call.stripe(self.stripes.len() as u64) as usize;
         let bins = &mut self.stripes[stripe];
-        methods::apply_into(bins, &call, &mut self.workspace, bytes)
+        bins.apply_into(&call, &mut self.workspace, bytes)
     }
 
     /// Makes the calls in turn, each on the result of the ones before it. If a call is refused, neither it nor any after
@@ -160,7 +160,7 @@ impl Striped {
 }
 
 /// Replaces the values of each stripe, and adds up the counts.
-fn replace_stripes(stripes: &mut Vec<HashedBins>, program: &Verified, arg: &Option<Value>) -> Counts
+fn replace_stripes(stripes: &mut Vec<Stripe>, program: &Verified, arg: &Option<Value>) -> Counts
     requires bounded { length stripes.old.items ≤ MAX_STRIPES }
     ensures each { ReplacesStripes program.now arg.now stripes.old.items stripes.new.items result }
 {
@@ -181,19 +181,19 @@ fn replace_stripes(stripes: &mut Vec<HashedBins>, program: &Verified, arg: &Opti
 }
 
 /// Makes this many stripes without entries.
-fn empty_stripes(alloc: Global, count: u64) -> Result<Vec<HashedBins>, NoMemory>
+fn empty_stripes(alloc: Global, count: u64) -> Result<Vec<Stripe>, NoMemory>
     ensures count { IfOk result (λ stripes. length stripes.items ≡ count) }
     ensures empty { IfOk result (λ stripes. (i : ℕ) → stripe_at stripes.items i ≡ finmap.empty) }
 {
     let mut stripes = Vec::new(alloc);
     for _ in 0..count {
-        stripes.push(HashedBins::open(alloc, count)?)?;
+        stripes.push(Stripe::open(alloc, count)?)?;
     }
     Ok(stripes)
 }
 
 /// Returns the number of entries in all stripes.
-fn count_all(stripes: &[HashedBins]) -> u64
+fn count_all(stripes: &[Stripe]) -> u64
     requires { length stripes.now ≤ MAX_STRIPES }
     ensures { result ≡ length (all_entries stripes.now) }
 {
@@ -205,7 +205,7 @@ fn count_all(stripes: &[HashedBins]) -> u64
 }
 
 /// Returns the entries of all stripes in one list. Asks for its room first.
-fn list_of(alloc: Global, stripes: &[HashedBins]) -> Result<EntryList, NoMemory>
+fn list_of(alloc: Global, stripes: &[Stripe]) -> Result<EntryList, NoMemory>
     requires { length stripes.now ≤ MAX_STRIPES }
     ensures ok { IfOk result (λ found. WeighSame found (all_entries stripes.now)) }
 {
@@ -218,7 +218,7 @@ fn list_of(alloc: Global, stripes: &[HashedBins]) -> Result<EntryList, NoMemory>
 }
 
 /// Returns the entries of all stripes in key order.
-fn sorted_entries(alloc: Global, stripes: &[HashedBins]) -> Result<SortedEntries, NoMemory>
+fn sorted_entries(alloc: Global, stripes: &[Stripe]) -> Result<SortedEntries, NoMemory>
     requires { AreStripes stripes.now }
     ensures ok { IfOk result (λ found. found ≡ finmap.entries (whole stripes.now)) }
 {

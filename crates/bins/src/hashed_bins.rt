@@ -7,6 +7,7 @@ ghost use Rattle.bins.specs.Told.{IsBinCount};
 ghost use Rattle.std.specs.List.{AllWithin, swap_remove};
 ghost use Rattle.bins.specs.Mixed.{mixed};
 ghost use Rattle.bins.specs.KeptRows.{string_at};
+ghost use Rattle.bins.specs.Places.{KeepsPlaces, table_in};
 ghost use Rattle.bins.specs.Finders.{Finds};
 ghost use Rattle.bins.specs.Trees.{Locates, StandOnce};
 
@@ -17,6 +18,7 @@ use crate::index::Index;
 use crate::lent_entries::LentEntries;
 use crate::occupied::{Occupied, Occupies};
 use crate::opening::Opening;
+use crate::places::Places;
 use crate::replacement::replace_rows;
 use crate::rows::Rows;
 use crate::told_size::ToldSize;
@@ -41,16 +43,15 @@ pub struct HashedBins {
 
 impl Model for HashedBins {
     ghost use Rattle.std.specs.Prelude.{◌≡◌, length};
-    ghost use Rattle.std.specs.FinMap as map;
-    ghost use Rattle.bins.specs.Table.{Table, table_code};
     ghost use Rattle.bins.specs.Entries.{Distinct, entries_in};
     ghost use Rattle.bins.specs.Finders.{Finds};
+    ghost use Rattle.bins.specs.Places.{Held, held_code};
 
-    ghost Value = { Table };
+    ghost Value = { Held };
 
-    ghost coded = { table_code };
+    ghost coded = { held_code };
 
-    ghost view = { λ b. map.from_entries (entries_in b.rows.keys b.rows.values) };
+    ghost view = { λ b. record { keys = b.rows.keys; values = b.rows.values } };
 
     ghost invariant = { λ b. Finds b.finder b.rows.keys
         × Distinct (entries_in b.rows.keys b.rows.values)
@@ -126,9 +127,10 @@ impl HashedBins {
     /// Adds a key that is absent, whatever the budget.
     #[inline(always)]
     fn add_admitted(&mut self, key: &HashedKey<'_>, value: &Value) -> Result<(), NoMemory>
-        requires absent { map.get self.old key.now ≡ None }
-        ensures ok { OnOk result (self.new ≡ map.insert self.old key.now value.now) }
+        requires absent { map.get (table_in self.old) key.now ≡ None }
+        ensures ok { OnOk result (table_in self.new ≡ map.insert (table_in self.old) key.now value.now) }
         ensures err { OnErr result (self.new ≡ self.old) }
+        ensures places { KeepsPlaces (table_in self.old) self.old.keys self.new.keys }
     {
         self.rows.reserve(1)?;
         self.finder.push(&self.rows, key)?;
@@ -142,9 +144,10 @@ impl HashedBins {
     /// Sets the value of a key that does not stand where it was found before, if it was.
     #[inline(never)]
     fn put_searched(&mut self, key: &HashedKey<'_>, value: &Value) -> Result<(), NoMemory>
-        ensures ok { OnOk result (self.new ≡ map.insert self.old key.now value.now) }
-        ensures err { OnErr result (self.new ≡ self.old) }
-        ensures memory { OnErr result (map.get self.old key.now ≡ None) }
+        ensures ok { OnOk result (table_in self.new ≡ map.insert (table_in self.old) key.now value.now) }
+        ensures err { OnErr result (table_in self.new ≡ table_in self.old) }
+        ensures memory { OnErr result (map.get (table_in self.old) key.now ≡ None) }
+        ensures places { KeepsPlaces (table_in self.old) self.old.keys self.new.keys }
     {
         match self.finder.position(&self.rows, key) {
             Some(position) => {
@@ -166,7 +169,9 @@ impl Occupies for HashedBins {
 }
 
 impl Bins for HashedBins {
-    ghost table = { λ bins. bins };
+    ghost table = { λ bins. table_in bins };
+
+    ghost order = { λ bins. bins.keys };
 
     fn open(alloc: Global, stripes: u64) -> Result<HashedBins, NoMemory> {
         HashedBins::open_with(alloc, stripes, &Opening::seeded(Seed::fixed()))
@@ -217,6 +222,10 @@ impl Bins for HashedBins {
 
     fn lend(&self) -> LentEntries<'_> {
         LentEntries::of_rows(&self.rows)
+    }
+
+    fn lend_at(&self, places: Places) -> (LentEntries<'_>, Places) {
+        (LentEntries::of_rows(&self.rows), places)
     }
 
     fn count(&self) -> u64 {

@@ -1,5 +1,5 @@
 //! Entries in one list, sorted by key.
-ghost use Rattle.std.specs.Prelude.{◌≡◌, ◌≤◌, T, length, insert, IfOk, IfErr, OnOk, OnErr};
+ghost use Rattle.std.specs.Prelude.{◌≡◌, ◌≤◌, [], T, length, insert, IfOk, IfErr, OnOk, OnErr};
 ghost use Rattle.std.specs.List.Sorted.{IsSearchInRange};
 ghost use Rattle.std.specs.FinMap.{is_sorted};
 ghost use Rattle.bins.specs.Table.{by_bytes};
@@ -79,6 +79,8 @@ fn add_entry(
 
 impl Bins for ListBins {
     ghost table = { λ bins. bins };
+
+    ghost order = { λ bins. [] };
 
     fn open(alloc: Global, _stripes: u64) -> Result<ListBins, NoMemory> {
         Ok(ListBins {

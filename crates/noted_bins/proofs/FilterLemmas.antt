@@ -1,5 +1,5 @@
 -- Rows of the entries whose keys a filter may have.
-use Rattle.std.proofs.Common.{◌≡◌, ℕ, ◌+◌, ◌<◌, Bool, true, false, cond, List, [], ◌∷◌, ◌++◌, append-nil, append_assoc, length, Option, Some, None, refl, sym, ap, subst, ◌∙◌, ◌⊎◌, inl, inr, arith}
+use Rattle.std.proofs.Common.{◌≡◌, ℕ, ◌+◌, ◌<◌, ◌≤◌, Bool, true, false, cond, List, [], ◌∷◌, ◌++◌, append-nil, append_assoc, length, Option, Some, None, refl, sym, ap, subst, ◌∙◌, ◌⊎◌, inl, inr, arith}
 use Rattle.std.specs.Prelude.{is_some as is_there}
 use Rattle.std.specs.FinMap as map
 use Rattle.std.specs.FinMap.{get-entries}
@@ -7,14 +7,16 @@ use Rattle.std.proofs.lemmas.Bool.{cases_lt}
 use Rattle.std.proofs.lemmas.List.Elements.{All-nil, All-cons, All-append}
 use Rattle.bins.specs.Copies.{AreCopies}
 use Rattle.bins.specs.Entries.{entry_of}
+use Rattle.bins.specs.Places.{IsOneOf, is_below, place_in}
+use Rattle.bins.specs.declared.places.Places.{Places}
 use Rattle.bins.specs.Table.{Entry}
 use Rattle.timed_bins.specs.Deadlines.{TimedTable}
-use Rattle.noted_bins.specs.declared.key_filter.Places.{Places}
-use Rattle.noted_bins.specs.Filters.{IsAmong, may_have}
+use Rattle.noted_bins.specs.Filters.{may_have}
 use Rattle.noted_bins.specs.Marks.{mark_of, saved_as}
 use Rattle.noted_bins.specs.Notes.{is_filtered}
 use Rattle.noted_bins.specs.Rows.{Row, has_row, row_of}
-use Rattle.noted_bins.specs.Taking.{HandsOutAt, HandsOutFiltered, HandsOutPresent}
+use Rattle.noted_bins.specs.Sweeps.{SweptKeys, is_swept}
+use Rattle.noted_bins.specs.Taking.{HandsOutAt, HandsOutFiltered, HandsOutPresent, HandsOutSwept}
 use Rattle.noted_bins.proofs.AllLemmas.{copied, found_at, moved}
 use Rattle.noted_bins.proofs.HandLemmas.{row_before, row_itself}
 use Rattle.noted_bins.proofs.MarkLemmas.{present}
@@ -34,27 +36,29 @@ both_true true (Some v) e = (refl, (v, refl))
 both_true true None e = absurd cc
 both_true false value e = absurd cc
 
--- those of the first entries were added whose places are these
-abbrev pub HasFirst : List Bool → Places → List Entry → ℕ → List Row → Type 0
-HasFirst filter places entries p rows =
-    (j : ℕ) → j < p → may_have filter (entry_of entries j).0 ≡ true → IsAmong places filter (entry_of entries j).0 → has_row rows (entry_of entries j).0 ≡ true
+-- those of the entries from one position up to another were added that a filter may have
+abbrev pub HasFirst : List Bool → List Entry → ℕ → ℕ → List Row → Type 0
+HasFirst filter entries from p rows =
+    (j : ℕ) → from ≤ j → j < p → may_have filter (entry_of entries j).0 ≡ true → has_row rows (entry_of entries j).0 ≡ true
+
+-- there are none yet
+pub first_none : (filter : List Bool) (entries : List Entry) (from : ℕ) (rows : List Row) → HasFirst filter entries from from rows
+first_none filter entries from rows j low high may = absurd (omega (arith, low, high))
 
 -- the next one is not to be added
-pub first_skipped : (filter : List Bool) (places : Places) (entries : List Entry) (p : ℕ) (rows : List Row) → HasFirst filter places entries p rows
-    → (may_have filter (entry_of entries p).0 ≡ true → ¬ IsAmong places filter (entry_of entries p).0) → HasFirst filter places entries (p + 1) rows
-first_skipped filter places entries p rows first not j lt has among = elim (before_or_here j p lt) [
-  | inl before ↦ first j before has among
-  | inr here ↦
-      let same : (entry_of entries j).0 ≡ (entry_of entries p).0 = ap (λ (k : ℕ). (entry_of entries k).0) here in
-      absurd (not (subst (λ (key : List ℕ). may_have filter key ≡ true) same has) (subst (IsAmong places filter) same among))
+pub first_skipped : (filter : List Bool) (entries : List Entry) (from p : ℕ) (rows : List Row) → HasFirst filter entries from p rows
+    → may_have filter (entry_of entries p).0 ≡ false → HasFirst filter entries from (p + 1) rows
+first_skipped filter entries from p rows first not j low lt has = elim (before_or_here j p lt) [
+  | inl before ↦ first j low before has
+  | inr here ↦ absurd (let same = ap (λ (k : ℕ). may_have filter (entry_of entries k).0) here in let both = sym has ∙ same ∙ not in cc)
 ]
 
-module _ (table : TimedTable) (filter : List Bool) (places : Places) (entries : List Entry) (are : AreCopies table.table entries) (old : List Row) where
+module _ (table : TimedTable) (filter : List Bool) (entries : List Entry) (are : AreCopies table.table entries) (from : ℕ) (old : List Row) where
   -- a row of the next one was added
   pub first_more : (p : ℕ) → p < length entries → (between new : List Row) (key value : List ℕ)
-      → ((hands : HandsOutPresent table old between) × HasFirst filter places entries p hands.rows) → ◌≡◌ {A = Entry} (key, value) (entry_of entries p)
+      → ((hands : HandsOutPresent table old between) × HasFirst filter entries from p hands.rows) → ◌≡◌ {A = Entry} (key, value) (entry_of entries p)
       → new ≡ between ++ (key, saved_as (mark_of (table.deadline key)) value) ∷ []
-      → (hands : HandsOutPresent table old new) × HasFirst filter places entries (p + 1) hands.rows
+      → (hands : HandsOutPresent table old new) × HasFirst filter entries from (p + 1) hands.rows
   first_more p inside between new key value before here added = (hands, has)
     where
       row : Row
@@ -74,38 +78,55 @@ module _ (table : TimedTable) (filter : List Bool) (places : Places) (entries : 
             (All-cons (λ (row : Row). row.1 ≡ row_of table row.0) row [] (present table key value there) (All-nil (λ (row : Row). row.1 ≡ row_of table row.0)));
       }
 
-      has : HasFirst filter places entries (p + 1) (before.0.rows ++ row ∷ [])
-      has j lt may among = elim (before_or_here j p lt) [
-        | inl first ↦ row_before before.0.rows row (entry_of entries j).0 (before.1 j first may among)
+      has : HasFirst filter entries from (p + 1) (before.0.rows ++ row ∷ [])
+      has j low lt may = elim (before_or_here j p lt) [
+        | inl first ↦ row_before before.0.rows row (entry_of entries j).0 (before.1 j low first may)
         | inr same ↦ ap (has_row (before.0.rows ++ row ∷ [])) (ap (λ (k : ℕ). (entry_of entries k).0) same ∙ sym key_is) ∙ row_itself before.0.rows row
       ]
 
-  -- all were added
-  pub first_all : (new : List Row) → ((hands : HandsOutPresent table old new) × HasFirst filter places entries (length entries) hands.rows) → HandsOutAt table filter places old new
-  first_all new first = record { handed = first.0; known = known }
+  -- all were added that have these places
+  pub first_all : (order : List (List ℕ)) (places positions : Places) → positions.from ≡ from
+      → ((p : ℕ) → p < length entries → IsOneOf places (place_in order (entry_of entries p).0) → IsOneOf positions p)
+      → (end last : ℕ) → ((p : ℕ) → p < length entries → is_below positions.to p ≡ true → p < end) → end ≤ last
+      → (new : List Row) → ((hands : HandsOutPresent table old new) × HasFirst filter entries from last hands.rows) → HandsOutAt table order filter places old new
+  first_all order places positions begins there end last below past new first = record { handed = first.0; known = known }
     where
-      known : (key : List ℕ) → is_filtered filter table.table key ≡ true → IsAmong places filter key → has_row first.0.rows key ≡ true
+      known : (key : List ℕ) → is_filtered filter table.table key ≡ true → IsOneOf places (place_in order key) → has_row first.0.rows key ≡ true
       known key e among =
           let both = both_true (may_have filter key) (map.get table.table key) e in
           let found = found_at key both.1.0 (map.entries table.table) (sym (get-entries table.table key) ∙ both.1.1) in
           let place = moved (map.entries table.table) entries (λ weight. sym (are weight)) found.0 found.1.0 in
           let here : (entry_of entries place.0).0 ≡ key = place.1.1 ∙ found.1.1 in
-          ap (has_row first.0.rows) (sym here) ∙ first.1 place.0 place.1.0 (ap (may_have filter) here ∙ both.0) (subst (IsAmong places filter) (sym here) among)
+          let position = there place.0 place.1.0 (subst (λ (k : List ℕ). IsOneOf places (place_in order k)) (sym here) among) in
+          let before : place.0 < end = below place.0 place.1.0 position.1 in
+          let low : from ≤ place.0 = omega (arith, begins, position.0) in
+          let high : place.0 < last = omega (arith, before, past) in
+          ap (has_row first.0.rows) (sym here) ∙ first.1 place.0 low high (ap (may_have filter) here ∙ both.0)
 
--- the keys at these places were taken out of the filter
-pub forgotten : (table : TimedTable) (filter filter' : List Bool) (places : Places) (old new : List Row) → HandsOutAt table filter places old new
-    → ((key : List ℕ) → may_have filter' key ≡ false → may_have filter key ≡ true → IsAmong places filter key) → HandsOutFiltered table filter filter' old new
-forgotten table filter filter' places old new hands others = record { handed = hands.handed; known = known }
-  where
-    gone : (may : Bool) (value : Option (List ℕ)) (v : List ℕ) → value ≡ Some v → cond may (is_there value) false ≡ false → may ≡ false
-    gone true value v there e = absurd (let has = ap is_there there in cc)
-    gone false value v there e = refl
-
-    known : (key : List ℕ) → is_filtered filter' table.table key ≡ false → is_filtered filter table.table key ≡ true → has_row hands.handed.rows key ≡ true
-    known key e was =
-        let both = both_true (may_have filter key) (map.get table.table key) was in
-        hands.known key was (others key (gone (may_have filter' key) (map.get table.table key) both.1.0 both.1.1 e) both.0)
+-- all keys were taken out of the filter
+pub all_forgotten : (table : TimedTable) (order : List (List ℕ)) (filter filter' : List Bool) (places : Places) (old new : List Row) → HandsOutAt table order filter places old new
+    → places.from ≡ 0 → places.to ≡ None → HandsOutFiltered table filter filter' old new
+all_forgotten table order filter filter' places old new hands from to = record {
+  handed = hands.handed;
+  known = λ key e was. hands.known key was (omega (arith, from), ap (λ (end : Option ℕ). is_below end (place_in order key)) to);
+}
 
 -- nothing was taken out
 pub kept_all : (table : TimedTable) (filter : List Bool) (old new : List Row) → HandsOutPresent table old new → HandsOutFiltered table filter filter old new
 kept_all table filter old new hands = record { handed = hands; known = λ key e was. absurd (let both = sym e ∙ was in cc) }
+
+-- the sweep left the keys at these places behind, or stays as it is
+pub passed : (table : TimedTable) (order : List (List ℕ)) (before after : SweptKeys) (places : Places) (old new : List Row) → HandsOutAt table order before.filter places old new
+    → ((key : List ℕ) → is_swept after order table.table key ≡ false → is_swept before order table.table key ≡ true → IsOneOf places (place_in order key))
+    → HandsOutSwept table order before after old new
+passed table order before after places old new hands left = record { handed = hands.handed; known = known }
+  where
+    filtered : (below : Bool) (there : Bool) → cond below there false ≡ true → there ≡ true
+    filtered true there e = e
+    filtered false there e = absurd cc
+
+    known : (key : List ℕ) → is_swept after order table.table key ≡ false → is_swept before order table.table key ≡ true → has_row hands.handed.rows key ≡ true
+    known key e was = hands.known key (filtered (is_below before.below (place_in order key)) (is_filtered before.filter table.table key) was) (left key e was)
+
+pub stayed : (table : TimedTable) (order : List (List ℕ)) (swept : SweptKeys) (old new : List Row) → HandsOutPresent table old new → HandsOutSwept table order swept swept old new
+stayed table order swept old new hands = record { handed = hands; known = λ key e was. absurd (let both = sym e ∙ was in cc) }

@@ -3,6 +3,8 @@ use Rattle.std.proofs.Common.{◌≡◌, ℕ, Bool, true, false, cond, List, [],
 use Rattle.std.specs.Prelude.{OnErr, is_err, is_some as is_there}
 use Rattle.std.specs.FinMap as finite
 use Rattle.std.proofs.lemmas.List.Elements.{All-nil, All-cons, All-append}
+use Rattle.bins.specs.Places.{is_below, place_in}
+use Rattle.bins.specs.Table.{Table}
 use Rattle.bins.proofs.DistinctEntries.{same_itself, differ}
 use Rattle.timed_bins.specs.Deadlines.{TimedTable}
 use Rattle.noted_bins.specs.declared.taken.Taken.TheVariants.{All as AllTaken, Begun, Some as SomeTaken, Rest}
@@ -10,8 +12,9 @@ use Rattle.noted_bins.specs.Hands.{HandsOut}
 use Rattle.noted_bins.specs.Filters.{may_have}
 use Rattle.noted_bins.specs.Notes.{NotedKeys, TakesChanges, has_entry, has_key, is_filtered, is_noted, is_some}
 use Rattle.noted_bins.specs.Rows.{Row, has_row, row_of, same_key}
-use Rattle.noted_bins.specs.Taking.{HandsOutAll, HandsOutFiltered}
-use Rattle.noted_bins.proofs.KeyLemmas.{either_false, filtered_there, not_in, not_noted, same_or_not, unnoted}
+use Rattle.noted_bins.specs.Sweeps.{HandsOver, SweptKeys, is_due, is_swept}
+use Rattle.noted_bins.specs.Taking.{HandsOutAll, HandsOutFiltered, HandsOutSwept}
+use Rattle.noted_bins.proofs.KeyLemmas.{either_false, filtered_there, neither, not_in, not_noted, same_or_not, unnoted}
 
 -- nothing was handed out
 pub hands_none : (notes : NotedKeys) (table : TimedTable) → notes.all ≡ false → HandsOut notes table [] notes
@@ -115,30 +118,143 @@ pub if_ok : {T E P : Type 0} (r : Result T E) → false ≡ is_err r → OnOk r 
 if_ok (Ok x) e told = told
 if_ok (Err x) e told = absurd cc
 
--- the rows of the lists were handed out, and the filter is off
-pub took_lists : (old new : NotedKeys) (table : TimedTable) (first changes : List Row) → ((rows : List Row) × ((changes ≡ first ++ rows) × HandsOut old table rows new)) → new.keys ≡ []
-    → new.filter ≡ [] → (rows : List Row) × ((changes ≡ first ++ rows) × TakesChanges (is_noted old table.table) table Rest rows (is_noted new table.table) table)
-took_lists old new table first changes before empty off = (
-  before.0,
+-- rows of keys that are due, one part after another
+module _ (table : TimedTable) where
+  -- what is handed over in two parts
+  pub hands_then : (first second third : List ℕ → Bool) (rows more : List Row) → HandsOver first table rows second → HandsOver second table more third → HandsOver first table (rows ++ more) third
+  hands_then first second third rows more one other = record {
+    present = All-append (λ (row : Row). row.1 ≡ row_of table row.0) rows more one.present other.present;
+    known = known;
+  }
+    where
+      known : (key : List ℕ) → third key ≡ false → (has_row (rows ++ more) key ≡ true) ⊎ (first key ≡ false)
+      known key e = elim (other.known key e) [
+        | inl has ↦ inl (rows_after rows more key has)
+        | inr not ↦
+            elim (one.known key not) [
+              | inl has ↦ inl (rows_before rows more key has)
+              | inr none ↦ inr none
+            ]
+      ]
+
+  -- as many are due in another way
+  pub hands_less : (first second third : List ℕ → Bool) (rows : List Row) → HandsOver first table rows second → ((key : List ℕ) → third key ≡ false → second key ≡ false) → HandsOver first table rows third
+  hands_less first second third rows hands less = record { present = hands.present; known = λ key e. hands.known key (less key e) }
+
+  -- from the lists
+  pub hands_lists : (old new : NotedKeys) (swept : SweptKeys) (order : List (List ℕ)) (rows : List Row) → HandsOut old table rows new
+      → HandsOver (is_due old swept order table.table) table rows (is_due new swept order table.table)
+  hands_lists old new swept order rows hands = record { present = hands.present; known = known }
+    where
+      known : (key : List ℕ) → is_due new swept order table.table key ≡ false → (has_row rows key ≡ true) ⊎ (is_due old swept order table.table key ≡ false)
+      known key e =
+          let parts = neither (is_noted new table.table key) (is_swept swept order table.table key) e in
+          elim (hands.known key parts.0) [
+            | inl has ↦ inl has
+            | inr not ↦ inr (either_false (is_noted old table.table key) (is_swept swept order table.table key) not parts.1)
+          ]
+
+  -- by a sweep
+  pub hands_swept : (notes : NotedKeys) (old new : SweptKeys) (order : List (List ℕ)) (before after : List Row) (hands : HandsOutSwept table order old new before after)
+      → HandsOver (is_due notes old order table.table) table hands.handed.rows (is_due notes new order table.table)
+  hands_swept notes old new order before after hands = record { present = hands.handed.present; known = known }
+    where
+      known : (key : List ℕ) → is_due notes new order table.table key ≡ false → (has_row hands.handed.rows key ≡ true) ⊎ (is_due notes old order table.table key ≡ false)
+      known key e =
+          let parts = neither (is_noted notes table.table key) (is_swept new order table.table key) e in
+          elim (noted_or_not (is_swept old order table.table key)) [
+            | inl was ↦ inl (hands.known key parts.1 was)
+            | inr not ↦ inr (either_false (is_noted notes table.table key) (is_swept old order table.table key) parts.0 not)
+          ]
+
+  takes_some : (due due' : List ℕ → Bool) (rows : List Row) → HandsOver due table rows due' → TakesChanges due table SomeTaken rows due' table
+  takes_some due due' rows hands = record {
+    same = refl;
+    present = hands.present;
+    known = hands.known;
+    none = λ no. absurd (let yes : is_some SomeTaken ≡ true = refl in cc);
+  }
+
+  takes_rest : (due due' : List ℕ → Bool) (rows : List Row) → HandsOver due table rows due' → ((key : List ℕ) → due' key ≡ false) → TakesChanges due table Rest rows due' table
+  takes_rest due due' rows hands none = record { same = refl; present = hands.present; known = hands.known; none = λ _ key. none key }
+
+-- a sweep that is off hands nothing out
+pub off_swept : (swept : SweptKeys) (order : List (List ℕ)) (table : Table) (key : List ℕ) → swept.filter ≡ [] → is_swept swept order table key ≡ false
+off_swept swept order table key off = by_place (is_below swept.below (place_in order key))
+  where
+    by_place : (below : Bool) → cond below (is_filtered swept.filter table key) false ≡ false
+    by_place true = ap (λ (f : List Bool). is_filtered f table key) off
+    by_place false = refl
+
+-- a sweep that begins hands out all that its filter may have
+pub begun_swept : (swept : SweptKeys) (order : List (List ℕ)) (table : Table) (key : List ℕ) → swept.below ≡ None → is_swept swept order table key ≡ is_filtered swept.filter table key
+begun_swept swept order table key begins = ap (λ (below : Option ℕ). cond (is_below below (place_in order key)) (is_filtered swept.filter table key) false) begins
+
+-- the keys of the filter go to a sweep
+pub filter_swept : (old new : NotedKeys) (before after : SweptKeys) (order : List (List ℕ)) (table : Table) → old.all ≡ false → new.keys ≡ old.keys → before.filter ≡ [] → after.filter ≡ old.filter
+    → after.below ≡ None → (key : List ℕ) → is_due new after order table key ≡ false → is_due old before order table key ≡ false
+filter_swept old new before after order table all keys off taken begins key e =
+    let parts = neither (is_noted new table key) (is_swept after order table key) e in
+    let why = unnoted new table key parts.0 in
+    let listed : has_key old.keys key ≡ false = ap (λ (ks : List (List ℕ)). has_key ks key) (sym keys) ∙ why.1.0 in
+    let filtered : is_filtered old.filter table key ≡ false =
+    ap (λ (f : List Bool). is_filtered f table key) (sym taken) ∙ sym (begun_swept after order table key begins) ∙ parts.1 in
+    either_false (is_noted old table key) (is_swept before order table key) (not_noted old table key all listed filtered) (off_swept before order table key off)
+
+-- none is due
+none_due : (new : NotedKeys) (swept : SweptKeys) (order : List (List ℕ)) (table : TimedTable) → new.all ≡ false → new.keys ≡ [] → new.filter ≡ [] → swept.filter ≡ []
+    → (key : List ℕ) → is_due new swept order table.table key ≡ false
+none_due new swept order table all none off ended key =
+    either_false (is_noted new table.table key) (is_swept swept order table.table key) (none_noted new table all none off key) (off_swept swept order table.table key ended)
+
+-- a sweep that was off is off
+off_still : (notes : NotedKeys) (before after : SweptKeys) (order : List (List ℕ)) (table : Table) → before.filter ≡ [] → (key : List ℕ) → is_due notes after order table key ≡ false
+    → is_due notes before order table key ≡ false
+off_still notes before after order table off key e =
+    let parts = neither (is_noted notes table key) (is_swept after order table key) e in
+    either_false (is_noted notes table key) (is_swept before order table key) parts.0 (off_swept before order table key off)
+
+-- rows of the lists were handed out, but not all of them
+pub took_part : (old new : NotedKeys) (swept : SweptKeys) (order : List (List ℕ)) (table : TimedTable) (first changes : List Row)
+    → ((rows : List Row) × ((changes ≡ first ++ rows) × HandsOut old table rows new))
+    → (rows : List Row) × ((changes ≡ first ++ rows) × TakesChanges (is_due old swept order table.table) table SomeTaken rows (is_due new swept order table.table) table)
+took_part old new swept order table first changes before = (before.0, (before.1.0, takes_some table _ _ before.0 (hands_lists table old new swept order before.0 before.1.1)))
+
+-- .. all of them, and the filter is off
+pub took_lists : (old new : NotedKeys) (before after : SweptKeys) (order : List (List ℕ)) (table : TimedTable) (first changes : List Row)
+    → ((rows : List Row) × ((changes ≡ first ++ rows) × HandsOut old table rows new)) → new.keys ≡ [] → new.filter ≡ [] → before.filter ≡ [] → after.filter ≡ []
+    → (rows : List Row) × ((changes ≡ first ++ rows) × TakesChanges (is_due old before order table.table) table Rest rows (is_due new after order table.table) table)
+took_lists old new before after order table first changes handed empty off was ended = (
+  handed.0,
   (
-    before.1.0,
-    record { same = refl; present = before.1.1.present; known = before.1.1.known; none = λ _ key. none_noted new table before.1.1.all empty off key },
+    handed.1.0,
+    takes_rest table _ _ handed.0
+        (hands_less table _ (is_due new before order table.table) _ handed.0 (hands_lists table old new before order handed.0 handed.1.1) (off_still new before after order table.table was))
+        (none_due new after order table handed.1.1.all empty off ended),
   ),
 )
 
-some_left : (old new : NotedKeys) (table : TimedTable) (rows : List Row) → HandsOut old table rows new
-    → TakesChanges (is_noted old table.table) table SomeTaken rows (is_noted new table.table) table
-some_left old new table rows hands = record {
-  same = refl;
-  present = hands.present;
-  known = hands.known;
-  none = λ no. absurd (let yes : is_some SomeTaken ≡ true = refl in cc);
-}
+-- a sweep handed out rows
+pub took_swept : (notes : NotedKeys) (old new : SweptKeys) (order : List (List ℕ)) (table : TimedTable) (before after : List Row) → HandsOutSwept table order old new before after
+    → (rows : List Row) × ((after ≡ before ++ rows) × TakesChanges (is_due notes old order table.table) table SomeTaken rows (is_due notes new order table.table) table)
+took_swept notes old new order table before after hands = (hands.handed.rows, (hands.handed.added, takes_some table _ _ _ (hands_swept table notes old new order before after hands)))
 
--- .. not all of them
-pub took_part : (old new : NotedKeys) (table : TimedTable) (first changes : List Row) → ((rows : List Row) × ((changes ≡ first ++ rows) × HandsOut old table rows new))
-    → (rows : List Row) × ((changes ≡ first ++ rows) × TakesChanges (is_noted old table.table) table SomeTaken rows (is_noted new table.table) table)
-took_part old new table first changes before = (before.0, (before.1.0, some_left old new table before.0 before.1.1))
+-- rows of the lists were handed out, and then the first ones of a sweep
+pub took_first : (old between new : NotedKeys) (before mid after : SweptKeys) (order : List (List ℕ)) (table : TimedTable) (first changes more : List Row)
+    → ((rows : List Row) × ((changes ≡ first ++ rows) × HandsOut old table rows between)) → new.keys ≡ between.keys → before.filter ≡ [] → mid.filter ≡ between.filter → mid.below ≡ None
+    → HandsOutSwept table order mid after changes more
+    → (rows : List Row) × ((more ≡ first ++ rows) × TakesChanges (is_due old before order table.table) table SomeTaken rows (is_due new after order table.table) table)
+took_first old between new before mid after order table first changes more lists keys off taken begins hands = (
+  lists.0 ++ hands.handed.rows,
+  (
+    hands.handed.added ∙ ap (λ (rs : List Row). rs ++ hands.handed.rows) lists.1.0 ∙ append_assoc first lists.0 hands.handed.rows,
+    takes_some table _ _ _
+        (hands_then table _ (is_due new mid order table.table) _ lists.0 hands.handed.rows
+        (hands_less table _ (is_due between before order table.table) _ lists.0 (hands_lists table old between before order lists.0 lists.1.1)
+        (filter_swept between new before mid order table.table lists.1.1.all keys off taken begins))
+        (hands_swept table new mid after order changes more hands)),
+  ),
+)
 
 -- then rows of keys that the filter has no more
 filtered_more : (old between new : NotedKeys) (table : TimedTable) (changes more rows : List Row) → HandsOut old table rows between
@@ -163,29 +279,21 @@ filtered_more old between new table changes more rows before hands all keys = re
 
 module _ (old between new : NotedKeys) (table : TimedTable) (first changes more : List Row) (before : (rows : List Row) × ((changes ≡ first ++ rows) × HandsOut old table rows between))
     (hands : HandsOutFiltered table between.filter new.filter changes more) (all : new.all ≡ between.all) (keys : new.keys ≡ between.keys) where
-  abbrev rows : List Row
-  rows = before.0 ++ hands.handed.rows
+  -- rows of the lists were handed out, and then those of the filter
+  pub handed_all : (rows : List Row) × ((more ≡ first ++ rows) × HandsOut old table rows new)
+  handed_all = (
+    before.0 ++ hands.handed.rows,
+    (
+      hands.handed.added ∙ ap (λ (rs : List Row). rs ++ hands.handed.rows) before.1.0 ∙ append_assoc first before.0 hands.handed.rows,
+      filtered_more old between new table changes more before.0 before.1.1 hands all keys,
+    ),
+  )
 
-  added : more ≡ first ++ rows
-  added = hands.handed.added ∙ ap (λ (rs : List Row). rs ++ hands.handed.rows) before.1.0 ∙ append_assoc first before.0 hands.handed.rows
-
-  handed_out : HandsOut old table rows new
-  handed_out = filtered_more old between new table changes more before.0 before.1.1 hands all keys
-
-  -- some may be left in the filter
-  pub took_some : (rows : List Row) × ((more ≡ first ++ rows) × TakesChanges (is_noted old table.table) table SomeTaken rows (is_noted new table.table) table)
-  took_some = (rows, (added, some_left old new table rows handed_out))
-
-  -- none is left
-  pub took_rest : between.keys ≡ [] → new.filter ≡ []
-      → (rows : List Row) × ((more ≡ first ++ rows) × TakesChanges (is_noted old table.table) table Rest rows (is_noted new table.table) table)
-  took_rest empty off = took_lists old new table first more (rows, (added, handed_out)) (keys ∙ empty) off
-
--- rows of some entries were handed out; each entry whose key is not noted is among them
-pub took_begun : (old full new : NotedKeys) (table : TimedTable) (changes more : List Row) → ((key : List ℕ) → may_have full.filter key ≡ true)
-    → HandsOutFiltered table full.filter new.filter changes more
-    → (rows : List Row) × ((more ≡ changes ++ rows) × TakesChanges (is_noted old table.table) table Begun rows (is_noted new table.table) table)
-took_begun old full new table changes more may hands = (
+-- a sweep of all entries began
+pub took_begun : (due : List ℕ → Bool) (new : NotedKeys) (mid after : SweptKeys) (order : List (List ℕ)) (table : TimedTable) (changes more : List Row) → ((key : List ℕ) → may_have mid.filter key ≡ true)
+    → mid.below ≡ None → HandsOutSwept table order mid after changes more
+    → (rows : List Row) × ((more ≡ changes ++ rows) × TakesChanges due table Begun rows (is_due new after order table.table) table)
+took_begun due new mid after order table changes more may begins hands = (
   hands.handed.rows,
   (
     hands.handed.added,
@@ -198,19 +306,21 @@ took_begun old full new table changes more may hands = (
   ),
 )
   where
-    known : (key : List ℕ) → is_noted new table.table key ≡ false → (has_row hands.handed.rows key ≡ true) ⊎ (finite.get table.table key ≡ None)
+    known : (key : List ℕ) → is_due new after order table.table key ≡ false → (has_row hands.handed.rows key ≡ true) ⊎ (finite.get table.table key ≡ None)
     known key e = by_entry (finite.get table.table key) refl
       where
         by_entry : (value : Option (List ℕ)) → finite.get table.table key ≡ value → (has_row hands.handed.rows key ≡ true) ⊎ (finite.get table.table key ≡ None)
         by_entry None is = inr is
         by_entry (Some value) is =
             let there : has_entry table.table key ≡ true = ap (λ (v : Option (List ℕ)). is_there v) is in
-            inl (hands.known key (unnoted new table.table key e).1.1 (filtered_there full.filter table.table key (may key) there))
+            inl (hands.known key (neither (is_noted new table.table key) (is_swept after order table.table key) e).1
+            (begun_swept mid order table.table key begins ∙ filtered_there mid.filter table.table key (may key) there))
 
 -- all entries were taken
-pub took_all : (old new : NotedKeys) (table : TimedTable) (before after : List Row) → HandsOutAll table before after → new.all ≡ false → new.keys ≡ [] → new.filter ≡ []
-    → (rows : List Row) × ((after ≡ before ++ rows) × TakesChanges (is_noted old table.table) table AllTaken rows (is_noted new table.table) table)
-took_all old new table before after hands all none off = (
+pub took_all : (due : List ℕ → Bool) (new : NotedKeys) (swept : SweptKeys) (order : List (List ℕ)) (table : TimedTable) (before after : List Row) → HandsOutAll table before after → new.all ≡ false
+    → new.keys ≡ [] → new.filter ≡ [] → swept.filter ≡ []
+    → (rows : List Row) × ((after ≡ before ++ rows) × TakesChanges due table AllTaken rows (is_due new swept order table.table) table)
+took_all due new swept order table before after hands all none off ended = (
   hands.rows,
   (
     hands.added,
@@ -218,7 +328,7 @@ took_all old new table before after hands all none off = (
       same = refl;
       present = hands.present;
       known = λ key e. hands.known key;
-      none = λ _ key. none_noted new table all none off key;
+      none = λ _ key. none_due new swept order table all none off ended key;
     },
   ),
 )

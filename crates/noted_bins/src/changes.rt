@@ -5,9 +5,9 @@ ghost use Rattle.noted_bins.specs.Marks.{marks_of, saved_as, saved_in};
 ghost use Rattle.noted_bins.specs.Rows.{Row, row_of};
 ghost use Rattle.noted_bins.specs.Taking.{HandsOutAll, HandsOutAt, HandsOutPresent, row_at};
 
-use crate::key_filter::{KeyFilter, Places};
+use crate::key_filter::KeyFilter;
 use crate::mark::{Mark, SavedEntry};
-use bins::{EntryList, HashedKey};
+use bins::{EntryList, HashedKey, Places};
 use bpf_model::limits::{KEY_BYTES, VALUE_BYTES};
 use bpf_model::{Key, NoMemory};
 use std::alloc::Global;
@@ -105,8 +105,8 @@ impl Changes {
         Ok(())
     }
 
-    /// Adds a row of each entry whose key the filter may have at these places. Returns `NoMemory` if a request for memory is refused;
-    /// then rows of some of them were added.
+    /// Adds a row of each entry whose key the filter may have, if its place is one of these. Returns `NoMemory` if a request for memory
+    /// is refused; then rows of some of them were added.
     pub(crate) fn add_filtered<T: TimedBins>(
         &mut self,
         bins: &T,
@@ -114,16 +114,16 @@ impl Changes {
         places: Places,
     ) -> Result<(), NoMemory>
         ensures ok { OnOk result (HandsOutAt
-            (timed_table (T.table bins.now) (T.deadline bins.now) (T.latest bins.now)) filter.now places self.old self.new) }
+            (timed_table (T.table bins.now) (T.deadline bins.now) (T.latest bins.now)) (T.order bins.now) filter.now places self.old self.new) }
         ensures err { OnErr result (HandsOutPresent
             (timed_table (T.table bins.now) (T.deadline bins.now) (T.latest bins.now)) self.old self.new) }
     {
-        let entries = bins.lend();
-        for position in 0..entries.len() {
+        let (entries, positions) = bins.lend_at(places);
+        for position in positions.from..positions.end_among(entries.len()) {
             let (bytes, value) = entries.get(position);
             let key = Key::from_slice(bytes).unwrap();
             let hashed = HashedKey::new(&key);
-            if filter.may_have_at(&hashed, places) {
+            if filter.may_have(&hashed) {
                 self.push(&key, value, Mark::of(bins.deadline_of(&hashed)))?;
             }
         }

@@ -16,6 +16,7 @@ mod noted;
 mod noted_bins;
 mod notes;
 mod short_key;
+mod sweep;
 mod taken;
 
 pub use changes::Changes;

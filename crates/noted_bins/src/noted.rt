@@ -2,18 +2,22 @@
 ghost use Rattle.std.specs.Prelude.{◌≡◌, ◌≤◌, ◌++◌, [], true, false, List, length, IsTrue, IfOk, OnErr, option_copied};
 ghost use Rattle.std.specs.FinMap as map;
 ghost use Rattle.atomic_methods.specs.Invocations.{get, invocation_of};
+ghost use Rattle.bins.specs.Places.{KeepsPlaces};
 ghost use Rattle.timed_bins.specs.Deadlines.{timed_table, MakesCall, RefusesCall, Expires};
 ghost use Rattle.noted_bins.specs.Hands.{HandsOut, LeavesSame};
-ghost use Rattle.noted_bins.specs.Notes.{NotesChanges, TakesChanges, is_all, is_anew, is_noted};
+ghost use Rattle.noted_bins.specs.Notes.{NotesChanges, TakesChanges, is_all, is_anew};
 ghost use Rattle.noted_bins.specs.Rows.{Row};
-ghost use Rattle.noted_bins.specs.Taking.{HandsOutFiltered};
+ghost use Rattle.noted_bins.specs.Sweeps.{is_due};
+ghost use Rattle.noted_bins.specs.Taking.{HandsOutFiltered, HandsOutSwept};
+ghost use Rattle.noted_bins.specs.declared.taken.Taken.TheVariants.{All as AllTaken};
 
 use crate::changes::Changes;
 use crate::noted_bins::NotedBins;
 use crate::notes::Notes;
+use crate::sweep::Sweep;
 use crate::taken::Taken;
 use atomic_methods::{Call, HashedCall, Workspace};
-use bins::{Bins, Counts, HashedKey, LentEntries, Occupied, Occupies, Opening};
+use bins::{Bins, Counts, HashedKey, LentEntries, Occupied, Occupies, Opening, Places};
 use bpf_model::{NoMemory, Value};
 use std::alloc::Global;
 use timed_bins::{Expiry, TimedBins, TimedReply, Timing};
@@ -25,6 +29,7 @@ use verifier::Verified;
 pub struct Noted<T: TimedBins> {
     bins: T,
     notes: Notes,
+    sweep: Sweep,
 }
 
 impl<T: TimedBins + Drop> Noted<T> {
@@ -43,9 +48,10 @@ impl<T: TimedBins + Drop> Noted<T> {
         ensures err { OnErr result (RefusesCall (option_copied timing.entry)
             (timed_table (T.table self.old.bins) (T.deadline self.old.bins) (T.latest self.old.bins)) call.now
             (timed_table (T.table self.new.bins) (T.deadline self.new.bins) (T.latest self.new.bins))) }
-        ensures notes { NotesChanges (is_noted self.old.notes (T.table self.old.bins))
-            (timed_table (T.table self.old.bins) (T.deadline self.old.bins) (T.latest self.old.bins)) (is_noted self.new.notes (T.table self.new.bins))
+        ensures notes { NotesChanges (is_due self.old.notes self.old.sweep (T.order self.old.bins) (T.table self.old.bins))
+            (timed_table (T.table self.old.bins) (T.deadline self.old.bins) (T.latest self.old.bins)) (is_due self.new.notes self.new.sweep (T.order self.new.bins) (T.table self.new.bins))
             (timed_table (T.table self.new.bins) (T.deadline self.new.bins) (T.latest self.new.bins)) }
+        ensures places { KeepsPlaces (T.table self.old.bins) (T.order self.old.bins) (T.order self.new.bins) }
     {
         let timed = self.bins.call(call, timing, workspace, bytes)?;
         if !is_get(call.call()) || changes_deadline(timing, &timed) {
@@ -58,9 +64,10 @@ impl<T: TimedBins + Drop> Noted<T> {
     fn expire(&mut self, now: u64) -> Expiry
         ensures expires { Expires (timed_table (T.table self.old.bins) (T.deadline self.old.bins) (T.latest self.old.bins)) now result
             (timed_table (T.table self.new.bins) (T.deadline self.new.bins) (T.latest self.new.bins)) }
-        ensures notes { NotesChanges (is_noted self.old.notes (T.table self.old.bins))
-            (timed_table (T.table self.old.bins) (T.deadline self.old.bins) (T.latest self.old.bins)) (is_noted self.new.notes (T.table self.new.bins))
+        ensures notes { NotesChanges (is_due self.old.notes self.old.sweep (T.order self.old.bins) (T.table self.old.bins))
+            (timed_table (T.table self.old.bins) (T.deadline self.old.bins) (T.latest self.old.bins)) (is_due self.new.notes self.new.sweep (T.order self.new.bins) (T.table self.new.bins))
             (timed_table (T.table self.new.bins) (T.deadline self.new.bins) (T.latest self.new.bins)) }
+        ensures places { KeepsPlaces (T.table self.old.bins) (T.order self.old.bins) (T.order self.new.bins) }
     {
         match self.bins.expire_one(now) {
             Expiry::Took(key) => {
@@ -114,89 +121,130 @@ fn take_listed<T: TimedBins>(
     Ok(notes.is_empty())
 }
 
-/// Adds rows of the entries that the filter may have at its next places to the changes. Returns whether the filter is off then. If a
-/// request for memory is refused, some of the rows are added, and the filter stays as it is.
-fn take_places<T: TimedBins>(
-    bins: &T,
-    notes: &mut Notes,
-    most: usize,
-    changes: &mut Changes,
-) -> bool
+/// Adds rows of the keys at the sweep's next places to the changes. If a request for memory is refused, some of the rows are added, and
+/// the sweep stays as it is.
+fn take_swept<T: TimedBins>(bins: &T, sweep: &mut Sweep, most: usize, changes: &mut Changes)
+    ensures { HandsOutSwept (timed_table (T.table bins.now) (T.deadline bins.now) (T.latest bins.now)) (T.order bins.now)
+        sweep.old sweep.new changes.old changes.new }
+{
+    let places = sweep.next_places(most, bins.count() as usize);
+    if changes.add_filtered(bins, sweep.filter(), places).is_err() {
+        return;
+    }
+    sweep.pass(places);
+}
+
+/// Adds rows of all entries that the filter may have to the changes, and turns it off. If a request for memory is refused, some of the rows
+/// are added, and the filter stays on.
+fn take_filtered<T: TimedBins>(bins: &T, notes: &mut Notes, changes: &mut Changes) -> bool
     ensures all { notes.new.all ≡ notes.old.all }
     ensures keys { notes.new.keys ≡ notes.old.keys }
     ensures handed { HandsOutFiltered (timed_table (T.table bins.now) (T.deadline bins.now) (T.latest bins.now))
         notes.old.filter notes.new.filter changes.old changes.new }
     ensures off { IsTrue result → notes.new.filter ≡ [] }
 {
-    let places = notes.next_places(most);
-    if changes.add_filtered(bins, notes.filter(), places).is_err() {
+    if changes.add_filtered(bins, notes.filter(), Places::all()).is_err() {
         return false;
     }
-    notes.forget_places(places)
+    notes.take_filter();
+    true
 }
 
-/// Adds rows of noted keys to the changes: at most `most` if all are in the lists, else those of the lists and of the filter's next places.
+/// Adds rows of noted keys to the changes: those of the lists, at most `most`; then those of the filter, by a sweep in parts, or all
+/// at once if keys change faster than they are handed out.
 fn take_some<T: TimedBins>(
     bins: &T,
     notes: &mut Notes,
+    sweep: &mut Sweep,
     most: usize,
     changes: &mut Changes,
 ) -> Result<Taken, NoMemory>
     requires { notes.old.all ≡ false }
     ensures ok { IfOk result (λ taken. (rows : List Row) × ((changes.new ≡ changes.old ++ rows)
-        × TakesChanges (is_noted notes.old (T.table bins.now)) (timed_table (T.table bins.now) (T.deadline bins.now) (T.latest bins.now))
-        taken rows (is_noted notes.new (T.table bins.now)) (timed_table (T.table bins.now) (T.deadline bins.now) (T.latest bins.now)))) }
-    ensures err { OnErr result ((changes.new ≡ changes.old) × (notes.new ≡ notes.old)) }
+        × TakesChanges (is_due notes.old sweep.old (T.order bins.now) (T.table bins.now)) (timed_table (T.table bins.now) (T.deadline bins.now) (T.latest bins.now))
+        taken rows (is_due notes.new sweep.new (T.order bins.now) (T.table bins.now)) (timed_table (T.table bins.now) (T.deadline bins.now) (T.latest bins.now)))) }
+    ensures err { OnErr result ((changes.new ≡ changes.old) × (notes.new ≡ notes.old) × (sweep.new ≡ sweep.old)) }
 {
-    // With the filter on the lists are short.
-    let listed = if notes.is_filtered() {
-        usize::MAX
-    } else {
-        most
-    };
-    if !take_listed(bins, notes, listed, changes)? {
+    if sweep.is_on() {
+        take_swept(bins, sweep, most, changes);
+        return Ok(Taken::Some);
+    }
+    if !take_listed(bins, notes, most, changes)? {
         return Ok(Taken::Some);
     }
     if !notes.is_filtered() {
+        sweep.end();
         return Ok(Taken::Rest);
     }
-    if take_places(bins, notes, most, changes) {
+    if sweep.may_follow() {
+        sweep.begin(notes.take_filter());
+        take_swept(bins, sweep, most, changes);
+        return Ok(Taken::Some);
+    }
+    if take_filtered(bins, notes, changes) {
+        sweep.end();
         return Ok(Taken::Rest);
     }
     Ok(Taken::Some)
 }
 
-/// Adds rows of all entries to the changes; or, if these are more than `most`, of some, and notes the others.
+/// Adds rows of all entries to the changes. Then no key is noted.
+fn take_all<T: TimedBins>(
+    bins: &T,
+    notes: &mut Notes,
+    sweep: &mut Sweep,
+    changes: &mut Changes,
+) -> Result<Taken, NoMemory>
+    ensures ok { IfOk result (λ taken. (rows : List Row) × ((changes.new ≡ changes.old ++ rows)
+        × TakesChanges (is_due notes.old sweep.old (T.order bins.now) (T.table bins.now)) (timed_table (T.table bins.now) (T.deadline bins.now) (T.latest bins.now))
+        taken rows (is_due notes.new sweep.new (T.order bins.now) (T.table bins.now)) (timed_table (T.table bins.now) (T.deadline bins.now) (T.latest bins.now)))) }
+    ensures all { IfOk result (λ taken. taken ≡ AllTaken) }
+    ensures err { OnErr result ((changes.new ≡ changes.old) × (notes.new ≡ notes.old) × (sweep.new ≡ sweep.old)) }
+{
+    changes.add_all(bins)?;
+    notes.forget();
+    sweep.end();
+    Ok(Taken::All)
+}
+
+/// Adds rows of all entries to the changes; or, if these are more than `most`, of some, and a sweep begins that hands out the others.
 fn take_anew<T: TimedBins>(
     bins: &T,
     notes: &mut Notes,
+    sweep: &mut Sweep,
     most: usize,
     changes: &mut Changes,
 ) -> Result<Taken, NoMemory>
     ensures ok { IfOk result (λ taken. (rows : List Row) × ((changes.new ≡ changes.old ++ rows)
-        × TakesChanges (is_noted notes.old (T.table bins.now)) (timed_table (T.table bins.now) (T.deadline bins.now) (T.latest bins.now))
-        taken rows (is_noted notes.new (T.table bins.now)) (timed_table (T.table bins.now) (T.deadline bins.now) (T.latest bins.now)))) }
+        × TakesChanges (is_due notes.old sweep.old (T.order bins.now) (T.table bins.now)) (timed_table (T.table bins.now) (T.deadline bins.now) (T.latest bins.now))
+        taken rows (is_due notes.new sweep.new (T.order bins.now) (T.table bins.now)) (timed_table (T.table bins.now) (T.deadline bins.now) (T.latest bins.now)))) }
     ensures anew { IfOk result (λ taken. is_anew taken ≡ true) }
     ensures all { IfOk result (λ taken. length (map.entries (T.table bins.now)) ≤ most → is_all taken ≡ true) }
-    ensures err { OnErr result ((changes.new ≡ changes.old) × (notes.new ≡ notes.old)) }
+    ensures err { OnErr result ((changes.new ≡ changes.old) × (notes.new ≡ notes.old) × (sweep.new ≡ sweep.old)) }
 {
-    let entries = bins.count();
-    if entries <= most as u64 || notes.note_entries(entries).is_err() {
-        changes.add_all(bins)?;
-        notes.forget();
-        return Ok(Taken::All);
+    if bins.count() <= most as u64 {
+        return take_all(bins, notes, sweep, changes);
     }
-    take_places(bins, notes, most, changes);
+    let Ok(whole) = notes.whole_filter() else {
+        return take_all(bins, notes, sweep, changes);
+    };
+    notes.forget();
+    sweep.end();
+    sweep.begin(whole);
+    take_swept(bins, sweep, most, changes);
     Ok(Taken::Begun)
 }
 
 impl<T: TimedBins + Drop> Bins for Noted<T> {
     ghost table = { λ noted. T.table noted.bins };
 
+    ghost order = { λ noted. T.order noted.bins };
+
     fn open(alloc: Global, stripes: u64) -> Result<Noted<T>, NoMemory> {
         Ok(Noted {
             bins: T::open(alloc, stripes)?,
             notes: Notes::of_all(alloc),
+            sweep: Sweep::off(alloc),
         })
     }
 
@@ -204,6 +252,7 @@ impl<T: TimedBins + Drop> Bins for Noted<T> {
         Ok(Noted {
             bins: T::open_with(alloc, stripes, opening)?,
             notes: Notes::of_all(alloc),
+            sweep: Sweep::off(alloc),
         })
     }
 
@@ -233,6 +282,10 @@ impl<T: TimedBins + Drop> Bins for Noted<T> {
         self.bins.lend()
     }
 
+    fn lend_at(&self, places: Places) -> (LentEntries<'_>, Places) {
+        self.bins.lend_at(places)
+    }
+
     fn count(&self) -> u64 {
         self.bins.count()
     }
@@ -246,7 +299,8 @@ impl<T: TimedBins + Drop> Bins for Noted<T> {
 impl<T: TimedBins + Occupies + Drop> Occupies for Noted<T> {
     /// The keys that changed are beside the rows.
     fn occupied(&self) -> Occupied {
-        self.bins.occupied().and_beside(self.notes.bytes())
+        let beside = self.notes.bytes().saturating_add(self.sweep.bytes() as u64);
+        self.bins.occupied().and_beside(beside)
     }
 }
 
@@ -276,7 +330,7 @@ impl<T: TimedBins + Drop> TimedBins for Noted<T> {
 }
 
 impl<T: TimedBins + Drop> NotedBins for Noted<T> {
-    ghost noted = { λ noted. is_noted noted.notes (T.table noted.bins) };
+    ghost noted = { λ noted. is_due noted.notes noted.sweep (T.order noted.bins) (T.table noted.bins) };
 
     #[inline(always)]
     fn call_noted(
@@ -304,9 +358,10 @@ impl<T: TimedBins + Drop> NotedBins for Noted<T> {
         most: usize,
         changes: &mut Changes,
     ) -> Result<Taken, NoMemory> {
-        if anew || self.notes.are_all() {
-            return take_anew(&self.bins, &mut self.notes, most, changes);
+        let Noted { bins, notes, sweep } = self;
+        if anew || notes.are_all() {
+            return take_anew(bins, notes, sweep, most, changes);
         }
-        take_some(&self.bins, &mut self.notes, most, changes)
+        take_some(bins, notes, sweep, most, changes)
     }
 }

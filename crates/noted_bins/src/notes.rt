@@ -1,15 +1,16 @@
 //! Which keys changed.
-ghost use Rattle.std.specs.Prelude.{◌≡◌, ◌++◌, ◌<◌, [], ◌∷◌, ℕ, List, true, false, IsTrue, OnOk, OnErr, MatchOption};
+ghost use Rattle.std.specs.Prelude.{◌≡◌, ◌++◌, ◌<◌, [], ◌∷◌, ℕ, List, true, false, IsTrue, IfOk, OnOk, MatchOption};
 ghost use Rattle.bins.specs.Table.{Table};
-ghost use Rattle.noted_bins.specs.Filters.{IsAmong, may_have};
+ghost use Rattle.noted_bins.specs.Filters.{may_have};
 ghost use Rattle.noted_bins.specs.Notes.{KeepsNoted, NotesKey, has_key};
 
-use crate::key_filter::{KeyFilter, Places};
+use crate::key_filter::KeyFilter;
 use crate::short_key::ShortKey;
 use bins::{Bins, HashedKey};
 use bpf_model::{Key, NoMemory};
 use std::alloc::Global;
 use std::marker::Model;
+use std::mem;
 
 /// The lists have room for this many keys, and for one more for each `PART` entries. If they are full, the filter is turned on.
 const FEW: u64 = 128;
@@ -20,10 +21,7 @@ const PART: u64 = 1024;
 /// If the filter is on, the lists have room for so many times as many keys. If they are full then, all keys are noted.
 const MORE: u64 = 2;
 
-/// The keys of a filter are handed out in at most so many parts, since each time all keys of the bins are read.
-const PARTS: usize = 4;
-
-/// Places for the positions of keys that were noted last.
+/// Slots for the positions of keys that were noted last.
 const RECENT: usize = 256;
 
 /// The keys that changed: all, or those in two lists, the short keys and the long ones, and those keys with an entry that the
@@ -36,8 +34,6 @@ pub(crate) struct Notes {
     short: Vec<ShortKey>,
     long: Vec<Key>,
     filter: KeyFilter,
-    // Since the filter was turned on, the keys were handed out at the places below this one.
-    reached: usize,
     // By the hashes of keys, the positions at which they were put. By now another key may stand there, or none.
     recent: [u32; RECENT],
 }
@@ -64,7 +60,6 @@ impl Notes {
             short: Vec::new(alloc),
             long: Vec::new(alloc),
             filter: KeyFilter::off(alloc),
-            reached: 0,
             recent: [0; RECENT],
         }
     }
@@ -162,7 +157,7 @@ impl Notes {
         ensures { IsTrue result → has_key self.now.keys key.now ≡ true }
     {
         let bytes = key.key().as_slice();
-        let position = self.recent[place_of(key)] as usize;
+        let position = self.recent[slot_of(key)] as usize;
         if position < self.short.len() && self.short[position].as_slice() == bytes {
             return true;
         }
@@ -188,7 +183,7 @@ impl Notes {
         }
     }
 
-    /// Turns the filter on, with a place for each of so many entries, unless it is on. If a request for memory is refused, all
+    /// Turns the filter on, with a slot for each of so many entries, unless it is on. If a request for memory is refused, all
     /// keys are noted.
     fn turn_filter_on(&mut self, entries: u64)
         ensures { (table : Table) → KeepsNoted table self.old self.new }
@@ -196,64 +191,27 @@ impl Notes {
         if self.filter.is_on() {
             return;
         }
-        match KeyFilter::of(self.alloc, places_for(entries), false) {
-            Ok(filter) => self.set_filter(filter),
+        match KeyFilter::of(self.alloc, slots_for(entries), false) {
+            Ok(filter) => self.filter = filter,
             Err(NoMemory) => self.note_all(),
         }
     }
 
-    /// Has this filter, whose keys were not handed out yet.
-    fn set_filter(&mut self, filter: KeyFilter)
+    /// Turns the filter off, and returns it as it was.
+    pub(crate) fn take_filter(&mut self) -> KeyFilter
+        ensures taken { result ≡ self.old.filter }
         ensures all { self.new.all ≡ self.old.all }
         ensures keys { self.new.keys ≡ self.old.keys }
-        ensures filter { self.new.filter ≡ filter }
+        ensures filter { self.new.filter ≡ [] }
     {
-        self.filter = filter;
-        self.reached = 0;
+        mem::replace(&mut self.filter, KeyFilter::off(self.alloc))
     }
 
-    /// Notes just the keys that have an entry, by a filter of so many that may have each key. Returns `NoMemory` if a request for memory
-    /// is refused; then nothing changes.
-    pub(crate) fn note_entries(&mut self, entries: u64) -> Result<(), NoMemory>
-        ensures all { OnOk result (self.new.all ≡ false) }
-        ensures keys { OnOk result (self.new.keys ≡ []) }
-        ensures filter { OnOk result ((key : List ℕ) → may_have self.new.filter key ≡ true) }
-        ensures err { OnErr result (self.new ≡ self.old) }
+    /// Returns a filter that may have each key. Returns `NoMemory` if a request for memory is refused.
+    pub(crate) fn whole_filter(&self) -> Result<KeyFilter, NoMemory>
+        ensures { IfOk result (λ filter. (key : List ℕ) → may_have filter key ≡ true) }
     {
-        let filter = KeyFilter::of(self.alloc, places_for(entries), true)?;
-        self.forget();
-        self.set_filter(filter);
-        Ok(())
-    }
-
-    /// Returns the places whose keys are handed out next: all, if they are at most so many, or if the keys at each place were handed out
-    /// since the filter was turned on; else so many of them, or a part of all.
-    pub(crate) fn next_places(&self, most: usize) -> Places {
-        let all = self.filter.len();
-        let part = most.max(all / PARTS);
-        if part >= all || self.reached >= all {
-            return Places { from: 0, to: all };
-        }
-        Places {
-            from: self.reached,
-            to: self.reached.saturating_add(part),
-        }
-    }
-
-    /// Takes the keys out of the filter that have these places. If these are all, turns it off. Returns whether it is off.
-    pub(crate) fn forget_places(&mut self, places: Places) -> bool
-        ensures all { self.new.all ≡ self.old.all }
-        ensures keys { self.new.keys ≡ self.old.keys }
-        ensures others { (key : List ℕ) → may_have self.new.filter key ≡ false → may_have self.old.filter key ≡ true → IsAmong places self.old.filter key }
-        ensures off { IsTrue result → self.new.filter ≡ [] }
-    {
-        if places.from == 0 && places.to >= self.filter.len() {
-            self.filter.turn_off();
-            return true;
-        }
-        self.filter.clear(places);
-        self.reached = places.to;
-        false
+        KeyFilter::of(self.alloc, 1, true)
     }
 
     /// Adds a key to its list, and remembers its position.
@@ -261,7 +219,7 @@ impl Notes {
         ensures { OnOk result ((table : Table) → NotesKey table self.old key.now self.new) }
     {
         let position = self.keep(key.key())?;
-        self.recent[place_of(key)] = u32::try_from(position).unwrap_or(u32::MAX);
+        self.recent[slot_of(key)] = u32::try_from(position).unwrap_or(u32::MAX);
         Ok(())
     }
 
@@ -305,17 +263,17 @@ impl Notes {
     }
 }
 
-/// Returns the place of a key's hash among those of keys that were noted last. All keys of a stripe have the same remainder
+/// Returns the slot of a key's hash among those of keys that were noted last. All keys of a stripe have the same remainder
 /// of their hashes, so it is mixed.
 #[inline(always)]
-fn place_of(key: &HashedKey<'_>) -> usize
+fn slot_of(key: &HashedKey<'_>) -> usize
     ensures { result < RECENT }
 {
     (key.hash().wrapping_mul(0x9E37_79B1) >> 24) as usize % RECENT
 }
 
-/// Returns how many places a filter of so many entries has.
-fn places_for(entries: u64) -> usize
+/// Returns how many slots a filter of so many entries has.
+fn slots_for(entries: u64) -> usize
     ensures { 0 < result }
 {
     entries.max(FEW) as usize

@@ -50,16 +50,18 @@ pub record SetsDeadline (old new : Table) (key : List ℕ) (deadline : Option �
   pub here : deadline_of new key ≡ deadline
   pub others : (other : List ℕ) → other ≢ key → map.get new other ≡ map.get old other
 
--- what timed bins keep: the entries, the bytes of each deadline, and the latest time that was told
+-- what timed bins keep: the entries, the keys in the order of their places, the bytes of each deadline, and the latest time that was
+-- told
 pub record Kept : Type 0 where
   pub table : Table
+  pub order : List (List ℕ)
   pub times : Table
   pub latest : ℕ
 
 abbrev pub kept_code : Coded Kept
 kept_code =
-    code_by (Table × (Table × ℕ)) (coded× table_code (coded× table_code coded_ℕ))
-    (λ k. (k.table, (k.times, k.latest))) (λ x. record { table = x.0; times = x.1.0; latest = x.1.1 }) (λ _. refl)
+    code_by (Table × (List (List ℕ) × (Table × ℕ))) (coded× table_code (coded× (coded_list (coded_list coded_ℕ)) (coded× table_code coded_ℕ)))
+    (λ k. (k.table, (k.order, (k.times, k.latest)))) (λ x. record { table = x.0; order = x.1.0; times = x.1.1.0; latest = x.1.1.1 }) (λ _. refl)
 
 -- only a key with an entry has a deadline
 abbrev pub AreOfEntries : Table → Table → Type 0

@@ -1,10 +1,11 @@
 use Rattle.std.proofs.Common.{◌≡◌, List, ℕ, length, sym, ap, subst, ◌∙◌}
 use Rattle.std.specs.FinMap as map
-use Rattle.bins.specs.Table.{Table}
 use Rattle.bins.specs.Entries.{Distinct, entries_in}
 use Rattle.bins.specs.Finders.{Finds}
+use Rattle.bins.specs.Places.{Held, table_in}
 use Rattle.bins.proofs.MapEdits.{on_err_anyway}
 use Rattle.bins.proofs.DistinctEntries.{table_of, get_none}
+use Rattle.bins.proofs.PlaceLemmas.{same_places}
 use Rattle.bins.proofs.PairedEntries.{entry_lacks, over_distinct, over_table, over_length}
 use Rattle.bins.proofs.hashed_bins.HashedBins.put_searched.Goals as goal
 
@@ -30,10 +31,14 @@ returns-in-Some-clause-ok c =
 pub add-requires : goal.add-requires
 add-requires c =
     let absent = entry_lacks _ _ c.self.invariant.2 _ c.in-None.ensures.absent in
-    record { absent = sym (ap (λ (table : Table). map.get table c.args.key.now) c.self.view_is) ∙ get_none _ _ absent }
+    record { absent = sym (ap (λ (held : Held). map.get (table_in held) c.args.key.now) c.self.view_is) ∙ get_none _ _ absent }
 
 -- memory fails only for a key that was not there
 pub returns-in-None-clause-memory : goal.returns-in-None-clause-memory
 returns-in-None-clause-memory c =
     let absent = entry_lacks _ _ c.self.invariant.2 _ c.in-None.ensures.absent in
-    on_err_anyway _ (sym (ap (λ (table : Table). map.get table c.args.key.now) c.self.view_is) ∙ get_none _ _ absent)
+    on_err_anyway _ (sym (ap (λ (held : Held). map.get (table_in held) c.args.key.now) c.self.view_is) ∙ get_none _ _ absent)
+
+-- the keys stand as before
+pub returns-in-Some-clause-places : goal.returns-in-Some-clause-places
+returns-in-Some-clause-places c = same_places _ _ _ (c.set_value.ensures.keys ∙ ap (λ (held : Held). held.keys) c.self.view_is)

@@ -1,7 +1,7 @@
 use Rattle.std.proofs.Common.{sym, ap, ◌∙◌, length}
 use Rattle.std.specs.FinMap as map
 use Rattle.std.specs.FinMap.{len-entries}
-use Rattle.bins.specs.Table.{Table}
+use Rattle.bins.specs.Places.{Held, table_in}
 use Rattle.bins.specs.Entries.{entries_in}
 use Rattle.bins.proofs.DistinctEntries.{table_of}
 use Rattle.bins.proofs.EntryCounts.{len-table}
@@ -13,4 +13,4 @@ pub returns-clause-value : goal.returns-clause-value
 returns-clause-value c =
     let entries = entries_in c.self.inside.rows.keys c.self.inside.rows.values in
     c.len.ensures.value ∙ sym (paired-length _ _ c.self.invariant.2) ∙ sym (len-table entries c.self.invariant.1) ∙ len-entries (table_of entries)
-    ∙ ap (λ (t : Table). length (map.entries t)) c.self.view_is
+    ∙ ap (λ (held : Held). length (map.entries (table_in held))) c.self.view_is

@@ -2,6 +2,8 @@ use Rattle.std.proofs.Common.{◌≡◌, List, ℕ, length, sym, ap, subst, ◌�
 use Rattle.std.specs.FinMap as map
 use Rattle.bins.specs.Entries.{Distinct, entries_in}
 use Rattle.bins.specs.Finders.{Finds}
+use Rattle.bins.specs.Places.{Held}
+use Rattle.bins.proofs.PlaceLemmas.{same_places}
 use Rattle.bins.proofs.DistinctEntries.{table_of}
 use Rattle.bins.proofs.PairedEntries.{over_distinct, over_table, over_length}
 use Rattle.bins.proofs.hashed_bins.HashedBinsBins.put.Goals as goal
@@ -23,3 +25,7 @@ returns-in-Some-clause-ok c =
     let keys = ap (λ (ks : List (List ℕ)). table_of (entries_in ks c.set_value.new.self.values)) c.set_value.ensures.keys in
     let written = over_table _ _ c.self.invariant.2 _ c.in-Some.ensures.bound _ _ c.set_value.ensures.values _ c.self.invariant.1 c.in-Some.ensures.found in
     rw (← c.self.view_is) (keys ∙ written ∙ ap (λ (v : List ℕ). map.insert (table_of (entries_in c.self.inside.rows.keys c.self.inside.rows.values)) c.args.key.now v) c.as_slice.ensures.value)
+
+-- the keys stand as before
+pub returns-in-Some-clause-places : goal.returns-in-Some-clause-places
+returns-in-Some-clause-places c = same_places _ _ _ (c.set_value.ensures.keys ∙ ap (λ (held : Held). held.keys) c.self.view_is)

@@ -1,0 +1,33 @@
+//! Places of keys, or positions of entries.
+ghost use Rattle.std.specs.Prelude.{◌≡◌, ◌<◌, ◌≤◌, ℕ, true, None};
+ghost use Rattle.bins.specs.Places.{is_below};
+
+/// Some places of keys, or positions of entries: from one on, up to another, which is not among them, if there is one.
+#[derive(Clone, Copy, Debug, PartialEq, Eq)]
+pub struct Places {
+    /// The first of them.
+    pub from: usize,
+    /// The one after the last; none if they have no end.
+    pub to: Option<usize>,
+}
+
+impl Places {
+    /// Returns all places.
+    pub fn all() -> Places
+        ensures from { result.from ≡ 0 }
+        ensures to { result.to ≡ None }
+    {
+        Places { from: 0, to: None }
+    }
+
+    /// Returns the position at which they end among so many.
+    pub fn end_among(&self, count: usize) -> usize
+        ensures most { result ≤ count }
+        ensures below { (position : ℕ) → position < count → is_below self.now.to position ≡ true → position < result }
+    {
+        match self.to {
+            Some(to) => to.min(count),
+            None => count,
+        }
+    }
+}
