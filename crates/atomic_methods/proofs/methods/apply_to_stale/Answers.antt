@@ -5,15 +5,15 @@ use Rattle.atomic_methods.proofs.TableLemmas.{get-removed, insert-remove}
 use Rattle.atomic_methods.proofs.methods.apply_to_stale.Goals as goal
 
 -- the call entered a value
-pub returns-then-enters : goal.returns-then-enters
-returns-then-enters g c =
+pub returns-then-enters-clause-answers : goal.returns-then-enters-clause-answers
+returns-then-enters-clause-answers g c =
     let table = g.B.Bins.table c.args.bins.now in let key = c.args.call.now.key in let value = c.new_value-enters.new.bytes in
     let enters = rw (c.if-enters.true, c.call.ensures.value) at c.new_value-enters.ensures.follows in
     (Some value, (rw (get-removed table key) enters, grind (arith, c.in-Ok.ensures.ok, insert-remove table key value)))
 
 -- the call entered nothing
-pub returns : goal.returns
-returns g c =
+pub returns-clause-answers : goal.returns-clause-answers
+returns-clause-answers g c =
     let table = g.B.Bins.table c.args.bins.now in let key = c.args.call.now.key in
     let stays = rw (c.if-enters.false, c.call.ensures.value) at c.new_value-enters.ensures.follows in
     let gone = get-removed table key in

@@ -3,24 +3,21 @@ use Rattle.timed_bins.proofs.StateLemmas.{takes_over, waits_until, finds_none}
 use Rattle.timed_bins.proofs.timed.TimedTimedBins.expire_one.Goals as goal
 
 -- a key is taken whose time is over
-pub returns-in-Over : goal.returns-in-Over
-returns-in-Over g c =
+pub returns-in-Over-clause-expires : goal.returns-in-Over-clause-expires
+returns-in-Over-clause-expires g c =
     let over = rw c.latest_of-self-inside.ensures at c.in-Over.ensures.finds in
     let times = rw c.in-Over.ensures.same at c.take.ensures.times in
     let key = c.new.ensures.key in
     rw (← c.self.view_is)
-    (record {
-      expires =
-          takes_over _ _ c.self.invariant _ _ _ _ _ _ over (rw key at c.take.ensures.table) (rw key at times)
-          (c.take.ensures.latest ∙ c.latest_of-self-inside.ensures);
-    })
+    (takes_over _ _ c.self.invariant _ _ _ _ _ _ over (rw key at c.take.ensures.table) (rw key at times)
+    (c.take.ensures.latest ∙ c.latest_of-self-inside.ensures))
 
 -- none is over
-pub returns-in-Later : goal.returns-in-Later
-returns-in-Later g c =
-    rw (← c.self.view_is) (record { expires = waits_until _ _ _ _ _ _ _ c.in-Later.ensures.same c.latest_of-self-inside.ensures c.in-Later.ensures.finds })
+pub returns-in-Later-clause-expires : goal.returns-in-Later-clause-expires
+returns-in-Later-clause-expires g c =
+    rw (← c.self.view_is) (waits_until _ _ _ _ _ _ _ c.in-Later.ensures.same c.latest_of-self-inside.ensures c.in-Later.ensures.finds)
 
 -- there are no deadlines
-pub returns-in-None : goal.returns-in-None
-returns-in-None g c =
-    rw (← c.self.view_is) (record { expires = finds_none _ _ _ _ _ _ c.in-None.ensures.same c.latest_of-self-inside.ensures c.in-None.ensures.finds })
+pub returns-in-None-clause-expires : goal.returns-in-None-clause-expires
+returns-in-None-clause-expires g c =
+    rw (← c.self.view_is) (finds_none _ _ _ _ _ _ c.in-None.ensures.same c.latest_of-self-inside.ensures c.in-None.ensures.finds)
