@@ -28,8 +28,8 @@ use std::time::Duration;
 /// A round takes the rows of this many keys, while the stripe is held.
 const ROUND_KEYS: usize = 1000;
 
-/// After this many rounds in which more keys were noted, one round takes them all.
-const ROUNDS: u32 = 16;
+/// After this many rounds in which more keys were noted, one round takes all entries anew.
+const ROUNDS: u32 = 1 << 16;
 
 /// With so many bytes a batch is written.
 const BATCH_BYTES: usize = 1 << 14;
@@ -82,11 +82,11 @@ fn leaves_noted(taken: Taken) -> bool
     matches!(taken, Taken::Begun | Taken::Some)
 }
 
-/// Tests whether this round begins anew: the first, if all is taken anew.
-fn is_first(anew: bool, round: u32) -> bool
+/// Tests whether this round begins anew: the first, if all is taken anew, and the last one.
+fn begins_with(anew: bool, round: u32) -> bool
     ensures { round ≡ 0 → result ≡ anew }
 {
-    anew && round == 0
+    (anew && round == 0) || round == ROUNDS
 }
 
 /// Tests whether rows of the stripe that were handed out before a round count no more.
@@ -297,7 +297,7 @@ impl Taker {
                 usize::MAX
             };
             let how = TakeHow {
-                anew: is_first(anew, round),
+                anew: begins_with(anew, round),
                 most,
             };
             let taken = self.take(rt, map, stripe, how)?;

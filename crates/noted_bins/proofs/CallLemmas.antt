@@ -126,29 +126,29 @@ read_only (Some timing) old new invocation timed bytes reads made same =
     (made_beside (Some timing) old new invocation timed bytes made)
 
 -- a key was taken away and noted
-pub expired_change : (old_notes new_notes : NotedKeys) (old new : TimedTable) (at : List ℕ) (now : ℕ) (was_over : Bool) → TakesIfOver old at now was_over new
+expired_change : (old_notes new_notes : NotedKeys) (old new : TimedTable) (at : List ℕ) (now : ℕ) (was_over : Bool) → TakesIfOver old at now was_over new
     → NotesKey new.table old_notes at new_notes → NotesChanges (is_noted old_notes old.table) old (is_noted new_notes new.table) new
 expired_change old_notes new_notes old new at now was_over takes notes = noted_change old_notes new_notes old new at notes (taken_beside old new at now was_over takes)
 
 -- a call was made, and its key was noted
-pub made_change : (timing : Option Timing) (old_notes new_notes : NotedKeys) (old new : TimedTable) (invocation : Invocation) (timed : TimedReply) (bytes : List ℕ)
+made_change : (timing : Option Timing) (old_notes new_notes : NotedKeys) (old new : TimedTable) (invocation : Invocation) (timed : TimedReply) (bytes : List ℕ)
     → MakesCall timing old invocation timed bytes new → NotesKey new.table old_notes invocation.key new_notes → NotesChanges (is_noted old_notes old.table) old (is_noted new_notes new.table) new
 made_change timing old_notes new_notes old new invocation timed bytes made notes =
     noted_change old_notes new_notes old new invocation.key notes (made_beside timing old new invocation timed bytes made)
 
 -- a call was refused, and nothing was noted
-pub refused_change : (timing : Option Timing) (notes : NotedKeys) (old new : TimedTable) (invocation : Invocation) → RefusesCall timing old invocation new
+refused_change : (timing : Option Timing) (notes : NotedKeys) (old new : TimedTable) (invocation : Invocation) → RefusesCall timing old invocation new
     → NotesChanges (is_noted notes old.table) old (is_noted notes new.table) new
 refused_change timing notes old new invocation refused = no_change notes old new (refused_same timing old new invocation refused)
 
 -- a call only read, and nothing was noted
-pub read_change : (timing : Option Timing) (notes : NotedKeys) (old new : TimedTable) (invocation : Invocation) (timed : TimedReply) (bytes : List ℕ)
+read_change : (timing : Option Timing) (notes : NotedKeys) (old new : TimedTable) (invocation : Invocation) (timed : TimedReply) (bytes : List ℕ)
     → MakesCall timing old invocation timed bytes new → invocation.method ≡ get → LeavesSame timing timed → NotesChanges (is_noted notes old.table) old (is_noted notes new.table) new
 read_change timing notes old new invocation timed bytes made reads same =
     no_change notes old new (read_only timing old new invocation timed bytes reads made same)
 
 -- a sweep still hands out each key that was due, if no entry got a higher place
-pub swept_too : (swept : SweptKeys) (old_order new_order : List (List ℕ)) (old_notes new_notes : NotedKeys) (old new : TimedTable)
+swept_too : (swept : SweptKeys) (old_order new_order : List (List ℕ)) (old_notes new_notes : NotedKeys) (old new : TimedTable)
     → NotesChanges (is_noted old_notes old.table) old (is_noted new_notes new.table) new → KeepsPlaces old.table old_order new_order
     → NotesChanges (is_due old_notes swept old_order old.table) old (is_due new_notes swept new_order new.table) new
 swept_too swept old_order new_order old_notes new_notes old new changes keeps key e =
@@ -177,3 +177,31 @@ swept_too swept old_order new_order old_notes new_notes old new changes keeps ke
     not_swept same e =
         by_tests (may_have swept.filter key) (has_entry old.table key) (has_entry new.table key) (is_below swept.below (place_in old_order key)) (is_below swept.below (place_in new_order key)) same
         (λ has. below_still swept.below (place_in old_order key) (place_in new_order key) (keeps key (there has))) e
+
+-- the same four with a sweep
+module _ (swept : SweptKeys) (old_order new_order : List (List ℕ)) where
+  -- a key was taken away and noted
+  pub expired_due : (old_notes new_notes : NotedKeys) (old new : TimedTable) (at : List ℕ) (now : ℕ) (was_over : Bool) → TakesIfOver old at now was_over new
+      → NotesKey new.table old_notes at new_notes → KeepsPlaces old.table old_order new_order
+      → NotesChanges (is_due old_notes swept old_order old.table) old (is_due new_notes swept new_order new.table) new
+  expired_due old_notes new_notes old new at now was_over takes notes keeps =
+      swept_too swept old_order new_order old_notes new_notes old new (expired_change old_notes new_notes old new at now was_over takes notes) keeps
+
+  -- a call was made, and its key was noted
+  pub made_due : (timing : Option Timing) (old_notes new_notes : NotedKeys) (old new : TimedTable) (invocation : Invocation) (timed : TimedReply) (bytes : List ℕ)
+      → MakesCall timing old invocation timed bytes new → NotesKey new.table old_notes invocation.key new_notes → KeepsPlaces old.table old_order new_order
+      → NotesChanges (is_due old_notes swept old_order old.table) old (is_due new_notes swept new_order new.table) new
+  made_due timing old_notes new_notes old new invocation timed bytes made notes keeps =
+      swept_too swept old_order new_order old_notes new_notes old new (made_change timing old_notes new_notes old new invocation timed bytes made notes) keeps
+
+  -- a call was refused, and nothing was noted
+  pub refused_due : (timing : Option Timing) (notes : NotedKeys) (old new : TimedTable) (invocation : Invocation) → RefusesCall timing old invocation new → KeepsPlaces old.table old_order new_order
+      → NotesChanges (is_due notes swept old_order old.table) old (is_due notes swept new_order new.table) new
+  refused_due timing notes old new invocation refused keeps = swept_too swept old_order new_order notes notes old new (refused_change timing notes old new invocation refused) keeps
+
+  -- a call only read, and nothing was noted
+  pub read_due : (timing : Option Timing) (notes : NotedKeys) (old new : TimedTable) (invocation : Invocation) (timed : TimedReply) (bytes : List ℕ)
+      → MakesCall timing old invocation timed bytes new → invocation.method ≡ get → LeavesSame timing timed → KeepsPlaces old.table old_order new_order
+      → NotesChanges (is_due notes swept old_order old.table) old (is_due notes swept new_order new.table) new
+  read_due timing notes old new invocation timed bytes made reads same keeps =
+      swept_too swept old_order new_order notes notes old new (read_change timing notes old new invocation timed bytes made reads same) keeps

@@ -119,7 +119,8 @@ impl Changes {
             (timed_table (T.table bins.now) (T.deadline bins.now) (T.latest bins.now)) self.old self.new) }
     {
         let (entries, positions) = bins.lend_at(places);
-        for position in positions.from..positions.end_among(entries.len()) {
+        let from = positions.from;
+        for position in from..positions.end_among(entries.len()) {
             let (bytes, value) = entries.get(position);
             let key = Key::from_slice(bytes).unwrap();
             let hashed = HashedKey::new(&key);

@@ -143,7 +143,10 @@ fn take_filtered<T: TimedBins>(bins: &T, notes: &mut Notes, changes: &mut Change
         notes.old.filter notes.new.filter changes.old changes.new }
     ensures off { IsTrue result → notes.new.filter ≡ [] }
 {
-    if changes.add_filtered(bins, notes.filter(), Places::all()).is_err() {
+    if changes
+        .add_filtered(bins, notes.filter(), Places::all())
+        .is_err()
+    {
         return false;
     }
     notes.take_filter();

@@ -1,4 +1,4 @@
-use Rattle.std.proofs.Common.{◌≡◌, ◌∙◌, sym, ap, length, true, arith}
+use Rattle.std.proofs.Common.{◌≡◌, ◌∙◌, refl, sym, ap, length, true, arith}
 use Rattle.bins.specs.Entries.{entry_of}
 use Rattle.noted_bins.specs.Filters.{may_have}
 use Rattle.noted_bins.proofs.FilterLemmas.{filtered_none, first_all, first_more, first_none, first_skipped}
@@ -13,9 +13,9 @@ loop-position-preserved g c =
     elim c.if-may_have.branch [
       | then-may_have+in_ok-push w ↦
           let added = rw (w.of.ensures, w.deadline_of.ensures.value, c.new-hashed.ensures.key) at w.in_ok-push.ensures.ok in
-          rw w.self-is (first_more _ _ _ c.lend_at.ensures.are _ _ _ (omega (arith, c.loop-position-test.true, c.end_among.ensures.most)) _ _ _ _ c.loop-position.invariant entry added)
+          rw w.self-is (first_more _ _ _ c.lend_at-entries.ensures.are _ _ _ (omega (arith, c.loop-position-test.true, c.end_among-position-end.ensures.most)) _ _ _ _ c.loop-position.invariant entry added)
       | else-may_have w ↦
-          let key_is : c.unwrap-key.result ≡ (entry_of c.lend_at.result.0 c.loop-position.position).0 = λ i. (entry i).0 in
+          let key_is : c.unwrap-key.result ≡ (entry_of c.lend_at-entries.result.0 c.loop-position.position).0 = λ i. (entry i).0 in
           let not = ap (may_have c.args.filter.now) (sym (c.new-hashed.ensures.key ∙ key_is)) ∙ sym c.may_have.ensures ∙ w.if-may_have.false in
           rw w.self-is (c.loop-position.invariant.0, first_skipped _ _ _ _ _ c.loop-position.invariant.1 not)
     ]
@@ -23,4 +23,4 @@ loop-position-preserved g c =
 -- the last one was looked at
 pub returns-clause-ok : goal.returns-clause-ok
 returns-clause-ok g c =
-    first_all _ _ _ c.lend_at.ensures.are _ _ _ _ _ refl c.lend_at.ensures.there _ _ c.end_among.ensures.below (omega (arith, c.loop-position-test.false)) _ c.loop-position.invariant
+    first_all _ _ _ c.lend_at-entries.ensures.are _ _ _ _ _ refl c.lend_at-entries.ensures.there _ _ (rw c.len.ensures.value at c.end_among-position-end.ensures.below) (omega (arith, c.loop-position-test.false)) _ c.loop-position.invariant

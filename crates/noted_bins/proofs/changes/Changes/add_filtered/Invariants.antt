@@ -6,4 +6,4 @@ use Rattle.noted_bins.proofs.changes.Changes.add_filtered.Given as goal
 abbrev pub invariant-loop-position : goal.invariant-loop-position
 invariant-loop-position g l =
     (hands : HandsOutPresent (timed_table (g.T.Bins.table l.bins) (g.T.TimedBins.deadline l.bins) (g.T.TimedBins.latest l.bins)) l.initial.self l.self)
-    × HasFirst l.filter l.entries l.positions.from l.position hands.rows
+    × HasFirst l.filter l.entries l.from l.position hands.rows
