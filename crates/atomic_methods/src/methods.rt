@@ -1,7 +1,7 @@
 //! The methods, over any store of entries: what a call will do to its key is planned before anything changes.
 ghost use Rattle.std.specs.FinMap as map;
 ghost use Rattle.std.specs.Prelude.{◌≡◌, ◌≢◌, ◌<◌, ◌^◌, ℕ, List, IfOk, OnOk, OnErr, Some, None, ◌↔◌, IsTrue};
-ghost use Rattle.bins.specs.Places.{KeepsPlaces};
+ghost use Rattle.bins.specs.Ranks.{KeepsRanks};
 ghost use Rattle.bins.specs.Replacements.{ReplacesEach, ComesTo};
 ghost use Rattle.atomic_methods.specs.Invocations.{invocation_of};
 ghost use Rattle.atomic_methods.specs.Methods.{rule_of, with_value, Follows, Answers, RunsTo, WouldAdd};
@@ -45,7 +45,7 @@ pub fn apply_into<B: Bins>(
         Answers (B.table bins.old) call.now (B.table bins.new) (reply_by kind bytes.new)) }
     ensures err { OnErr result (B.table bins.new ≡ B.table bins.old) }
     ensures memory { OnErr result (WouldAdd (B.table bins.old) call.now) }
-    ensures places { KeepsPlaces (B.table bins.old) (B.order bins.old) (B.order bins.new) }
+    ensures ranks { KeepsRanks (B.table bins.old) (B.order bins.old) (B.order bins.new) }
 {
     let Some(old) = bins.find(call.key()) else {
         return apply_to_absent(bins, call, workspace, bytes);
@@ -87,7 +87,7 @@ fn enter_answer<B: Bins>(
         Answers (B.table bins.old) call.now (B.table bins.new) (reply_by kind bytes.now)) }
     ensures err { OnErr result (B.table bins.new ≡ B.table bins.old) }
     ensures memory { OnErr result (WouldAdd (B.table bins.old) call.now) }
-    ensures places { KeepsPlaces (B.table bins.old) (B.order bins.old) (B.order bins.new) }
+    ensures ranks { KeepsRanks (B.table bins.old) (B.order bins.old) (B.order bins.new) }
 {
     match answered {
         Ok(true) => {
@@ -123,7 +123,7 @@ fn make_change<B: Bins>(
         with_value (B.table bins.old) key.now (changed change.now (map.get (B.table bins.old) key.now))) }
     ensures err { OnErr result (B.table bins.new ≡ B.table bins.old) }
     ensures memory { OnErr result (map.get (B.table bins.old) key.now ≡ None) }
-    ensures places { KeepsPlaces (B.table bins.old) (B.order bins.old) (B.order bins.new) }
+    ensures ranks { KeepsRanks (B.table bins.old) (B.order bins.old) (B.order bins.new) }
 {
     match change {
         Change::Keep => Ok(()),
@@ -149,7 +149,7 @@ fn apply_to_absent<B: Bins>(
         Answers (B.table bins.old) call.now (B.table bins.new) (reply_by kind bytes.new)) }
     ensures err { OnErr result (B.table bins.new ≡ B.table bins.old) }
     ensures memory { OnErr result (WouldAdd (B.table bins.old) call.now) }
-    ensures places { KeepsPlaces (B.table bins.old) (B.order bins.old) (B.order bins.new) }
+    ensures ranks { KeepsRanks (B.table bins.old) (B.order bins.old) (B.order bins.new) }
 {
     let (enters, kind) = new_value(call.call(), workspace, bytes);
     if enters {
@@ -170,7 +170,7 @@ pub fn apply_to_stale<B: Bins>(
 ) -> ReplyKind
     requires present { map.get (B.table bins.old) call.now.key ≢ None }
     ensures answers { Answers (map.remove (B.table bins.old) call.now.key) call.now (B.table bins.new) (reply_by result bytes.new) }
-    ensures places { KeepsPlaces (B.table bins.old) (B.order bins.old) (B.order bins.new) }
+    ensures ranks { KeepsRanks (B.table bins.old) (B.order bins.old) (B.order bins.new) }
 {
     let (enters, kind) = new_value(call.call(), workspace, bytes);
     if enters {

@@ -23,7 +23,7 @@ pub(crate) struct Stripe {
 }
 
 impl Model for Stripe {
-    ghost use Rattle.bins.specs.Places.{table_in};
+    ghost use Rattle.bins.specs.Ranks.{table_in};
     ghost use Rattle.bins.specs.Table.{Table, table_code};
 
     ghost Value = { Table };

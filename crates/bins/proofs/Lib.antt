@@ -32,4 +32,4 @@ pub mod ChainEdits
 pub mod TreeLemmas
 pub mod FinderLemmas
 pub mod FrontLemmas
-pub mod PlaceLemmas
+pub mod RankLemmas

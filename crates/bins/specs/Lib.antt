@@ -1,6 +1,6 @@
 pub mod Table
 pub mod Entries
-pub mod Places
+pub mod Ranks
 pub mod Copies
 pub mod Positions
 pub mod KeptRows

@@ -3,7 +3,7 @@ ghost use Rattle.std.specs.Prelude.{◌≡◌, ◌<◌, ◌≤◌, ◌^◌, None
 ghost use Rattle.std.specs.FinMap as map;
 ghost use Rattle.bins.specs.Copies.{AddsCopies, AreCopies};
 ghost use Rattle.bins.specs.Entries.{entry_of};
-ghost use Rattle.bins.specs.Places.{IsOneOf, KeepsPlaces, place_in};
+ghost use Rattle.bins.specs.Ranks.{IsOneOf, KeepsRanks, rank_in};
 ghost use Rattle.bins.specs.Replacements.{ReplacesEach};
 
 use crate::counts::Counts;
@@ -11,7 +11,7 @@ use crate::entry_list::EntryList;
 use crate::hashes::{HashedKey, Seed};
 use crate::lent_entries::LentEntries;
 use crate::opening::Opening;
-use crate::places::Places;
+use crate::ranks::Ranks;
 use crate::sorted_entries::sorted_copies;
 use bpf_model::limits::VALUE_BYTES;
 use bpf_model::{Key, NoMemory, Value};
@@ -26,8 +26,8 @@ pub trait Bins {
     /// The entries, as one map.
     ghost table: { Self → Table };
 
-    /// The keys in the order of their places. No call on a key gives an entry that is there a higher place. In bins that promise
-    /// no order, the list is empty, and each key has place 0.
+    /// The keys in the order of their ranks. No call on a key gives an entry that is there a higher rank. In bins that promise
+    /// no order, the list is empty, and each key has rank 0.
     ghost order: { Self → List (List ℕ) };
 
     /// Makes bins without entries, for one of a table's `stripes` stripes: bins of a kind may depend on that number, but those
@@ -62,7 +62,7 @@ pub trait Bins {
         ensures ok { OnOk result (table self.new ≡ map.insert (table self.old) key.now value.now) }
         ensures err { OnErr result (table self.new ≡ table self.old) }
         ensures memory { OnErr result (map.get (table self.old) key.now ≡ None) }
-        ensures places { KeepsPlaces (table self.old) (order self.old) (order self.new) };
+        ensures ranks { KeepsRanks (table self.old) (order self.old) (order self.new) };
 
     /// Adds a key that is absent, with this value, as `put` does but without a search. Returns `NoMemory` if memory for it
     /// is refused; the entries are then unchanged.
@@ -70,7 +70,7 @@ pub trait Bins {
         requires absent { map.get (table self.old) key.now ≡ None }
         ensures ok { OnOk result (table self.new ≡ map.insert (table self.old) key.now value.now) }
         ensures err { OnErr result (table self.new ≡ table self.old) }
-        ensures places { KeepsPlaces (table self.old) (order self.old) (order self.new) }
+        ensures ranks { KeepsRanks (table self.old) (order self.old) (order self.new) }
     {
         self.put(key, value)
     }
@@ -78,13 +78,13 @@ pub trait Bins {
     /// Removes a key. Takes no memory.
     fn discard(&mut self, key: &HashedKey<'_>)
         ensures others { table self.new ≡ map.remove (table self.old) key.now }
-        ensures places { KeepsPlaces (table self.old) (order self.old) (order self.new) };
+        ensures ranks { KeepsRanks (table self.old) (order self.old) (order self.new) };
 
     /// Removes a key as `discard` does, and returns a copy of the value that it had. Takes no memory.
     fn remove(&mut self, key: &HashedKey<'_>) -> Option<Value>
         ensures value { result ≡ map.get (table self.old) key.now }
         ensures others { table self.new ≡ map.remove (table self.old) key.now }
-        ensures places { KeepsPlaces (table self.old) (order self.old) (order self.new) }
+        ensures ranks { KeepsRanks (table self.old) (order self.old) (order self.new) }
     {
         let mut value = Value::new();
         value.set_from(self.find(key)?);
@@ -98,14 +98,14 @@ pub trait Bins {
         // As for `count`.
         ensures bounded { length (map.entries (table self.now)) < 2 ^ 57 };
 
-    /// Lends all entries as `lend` does, with the positions at which those stand that have these places. Others may stand there
+    /// Lends all entries as `lend` does, with the positions at which those stand that have these ranks. Others may stand there
     /// too. Takes no memory.
-    fn lend_at(&self, places: Places) -> (LentEntries<'_>, Places)
+    fn lend_at(&self, ranks: Ranks) -> (LentEntries<'_>, Ranks)
         ensures are { AreCopies (table self.now) result.0 }
-        ensures there { (p : ℕ) → p < length result.0 → IsOneOf places (place_in (order self.now) (entry_of result.0 p).0) → IsOneOf result.1 p }
+        ensures there { (p : ℕ) → p < length result.0 → IsOneOf ranks (rank_in (order self.now) (entry_of result.0 p).0) → IsOneOf result.1 p }
     {
-        let _ = places;
-        (self.lend(), Places::all())
+        let _ = ranks;
+        (self.lend(), Ranks::all())
     }
 
     /// Adds copies of all entries to the list, in any order. Asks for memory if the list has no room for them. Returns

@@ -7,7 +7,7 @@ ghost use Rattle.bins.specs.Told.{IsBinCount};
 ghost use Rattle.std.specs.List.{AllWithin, swap_remove};
 ghost use Rattle.bins.specs.Mixed.{mixed};
 ghost use Rattle.bins.specs.KeptRows.{string_at};
-ghost use Rattle.bins.specs.Places.{KeepsPlaces, table_in};
+ghost use Rattle.bins.specs.Ranks.{KeepsRanks, table_in};
 ghost use Rattle.bins.specs.Finders.{Finds};
 ghost use Rattle.bins.specs.Trees.{Locates, StandOnce};
 
@@ -18,7 +18,7 @@ use crate::index::Index;
 use crate::lent_entries::LentEntries;
 use crate::occupied::{Occupied, Occupies};
 use crate::opening::Opening;
-use crate::places::Places;
+use crate::ranks::Ranks;
 use crate::replacement::replace_rows;
 use crate::rows::Rows;
 use crate::told_size::ToldSize;
@@ -45,7 +45,7 @@ impl Model for HashedBins {
     ghost use Rattle.std.specs.Prelude.{◌≡◌, length};
     ghost use Rattle.bins.specs.Entries.{Distinct, entries_in};
     ghost use Rattle.bins.specs.Finders.{Finds};
-    ghost use Rattle.bins.specs.Places.{Held, held_code};
+    ghost use Rattle.bins.specs.Ranks.{Held, held_code};
 
     ghost Value = { Held };
 
@@ -130,7 +130,7 @@ impl HashedBins {
         requires absent { map.get (table_in self.old) key.now ≡ None }
         ensures ok { OnOk result (table_in self.new ≡ map.insert (table_in self.old) key.now value.now) }
         ensures err { OnErr result (self.new ≡ self.old) }
-        ensures places { KeepsPlaces (table_in self.old) self.old.keys self.new.keys }
+        ensures ranks { KeepsRanks (table_in self.old) self.old.keys self.new.keys }
     {
         self.rows.reserve(1)?;
         self.finder.push(&self.rows, key)?;
@@ -147,7 +147,7 @@ impl HashedBins {
         ensures ok { OnOk result (table_in self.new ≡ map.insert (table_in self.old) key.now value.now) }
         ensures err { OnErr result (table_in self.new ≡ table_in self.old) }
         ensures memory { OnErr result (map.get (table_in self.old) key.now ≡ None) }
-        ensures places { KeepsPlaces (table_in self.old) self.old.keys self.new.keys }
+        ensures ranks { KeepsRanks (table_in self.old) self.old.keys self.new.keys }
     {
         match self.finder.position(&self.rows, key) {
             Some(position) => {
@@ -224,8 +224,8 @@ impl Bins for HashedBins {
         LentEntries::of_rows(&self.rows)
     }
 
-    fn lend_at(&self, places: Places) -> (LentEntries<'_>, Places) {
-        (LentEntries::of_rows(&self.rows), places)
+    fn lend_at(&self, ranks: Ranks) -> (LentEntries<'_>, Ranks) {
+        (LentEntries::of_rows(&self.rows), ranks)
     }
 
     fn count(&self) -> u64 {

@@ -3,7 +3,7 @@ use Rattle.std.proofs.Common.{◌≡◌, ◌≢◌, ◌≤◌, ℕ, Bool, true, 
 use Rattle.std.specs.Prelude.{option_map, is_some as is_there, if◌then◌else◌}
 use Rattle.std.specs.FinMap as map
 use Rattle.std.proofs.lemmas.Bool.{ltb-false, le-ltb}
-use Rattle.bins.specs.Places.{KeepsPlaces, is_below, place_in}
+use Rattle.bins.specs.Ranks.{KeepsRanks, is_below, rank_in}
 use Rattle.bins.specs.Table.{Table}
 use Rattle.atomic_methods.specs.Invocations.{Invocation, Method, get}
 use Rattle.atomic_methods.specs.Methods.{Follows, rule_of}
@@ -18,7 +18,7 @@ use Rattle.noted_bins.specs.Hands.{LeavesSame}
 use Rattle.noted_bins.specs.Filters.{may_have}
 use Rattle.noted_bins.specs.Notes.{NotedKeys, NotesChanges, NotesKey, has_entry, is_noted}
 use Rattle.noted_bins.specs.Rows.{Saved, row_of}
-use Rattle.noted_bins.specs.Sweeps.{SweptKeys, is_due, is_swept}
+use Rattle.noted_bins.specs.Tours.{TourKeys, is_due, is_ahead}
 use Rattle.noted_bins.proofs.KeyLemmas.{either_false, neither, not_noted, same_or_not, unnoted}
 use Rattle.noted_bins.proofs.TableLemmas.{beside, beside_gone, here}
 
@@ -147,61 +147,61 @@ read_change : (timing : Option Timing) (notes : NotedKeys) (old new : TimedTable
 read_change timing notes old new invocation timed bytes made reads same =
     no_change notes old new (read_only timing old new invocation timed bytes reads made same)
 
--- a sweep still hands out each key that was due, if no entry got a higher place
-swept_too : (swept : SweptKeys) (old_order new_order : List (List ℕ)) (old_notes new_notes : NotedKeys) (old new : TimedTable)
-    → NotesChanges (is_noted old_notes old.table) old (is_noted new_notes new.table) new → KeepsPlaces old.table old_order new_order
-    → NotesChanges (is_due old_notes swept old_order old.table) old (is_due new_notes swept new_order new.table) new
-swept_too swept old_order new_order old_notes new_notes old new changes keeps key e =
-    let parts = neither (is_noted new_notes new.table key) (is_swept swept new_order new.table key) e in
+-- a tour still hands out each key that was due, if no entry got a higher rank
+ahead_too : (tour : TourKeys) (old_order new_order : List (List ℕ)) (old_notes new_notes : NotedKeys) (old new : TimedTable)
+    → NotesChanges (is_noted old_notes old.table) old (is_noted new_notes new.table) new → KeepsRanks old.table old_order new_order
+    → NotesChanges (is_due old_notes tour old_order old.table) old (is_due new_notes tour new_order new.table) new
+ahead_too tour old_order new_order old_notes new_notes old new changes keeps key e =
+    let parts = neither (is_noted new_notes new.table key) (is_ahead tour new_order new.table key) e in
     let known = changes key parts.0 in
     let same : has_entry new.table key ≡ has_entry old.table key = sym (there_by_row new key) ∙ ap (λ (saved : Saved). is_there saved) known.1 ∙ there_by_row old key in
-    (either_false (is_noted old_notes old.table key) (is_swept swept old_order old.table key) known.0 (not_swept same parts.1), known.1)
+    (either_false (is_noted old_notes old.table key) (is_ahead tour old_order old.table key) known.0 (not_ahead same parts.1), known.1)
   where
     below_still : (end : Option ℕ) (before after : ℕ) → after ≤ before → is_below end after ≡ false → is_below end before ≡ false
     below_still None before after le e = absurd cc
     below_still (Some end) before after le e = le-ltb before end (omega (arith, ltb-false after end e, le))
 
-    -- a key without an entry isn't swept; one with an entry has no higher place than before
+    -- a key without an entry isn't ahead; one with an entry has no higher rank than before
     by_tests : (may old_there new_there old_below new_below : Bool) → new_there ≡ old_there → (old_there ≡ true → new_below ≡ false → old_below ≡ false)
         → cond new_below (cond may new_there false) false ≡ false → cond old_below (cond may old_there false) false ≡ false
-    by_tests may old_there new_there false new_below same places e = refl
-    by_tests false old_there new_there true new_below same places e = refl
-    by_tests true false new_there true new_below same places e = refl
-    by_tests true true new_there true false same places e = absurd (let no = places refl refl in cc)
-    by_tests true true new_there true true same places e = absurd cc
+    by_tests may old_there new_there false new_below same ranks e = refl
+    by_tests false old_there new_there true new_below same ranks e = refl
+    by_tests true false new_there true new_below same ranks e = refl
+    by_tests true true new_there true false same ranks e = absurd (let no = ranks refl refl in cc)
+    by_tests true true new_there true true same ranks e = absurd cc
 
     there : has_entry old.table key ≡ true → map.get old.table key ≢ None
     there has none = absurd (let no = ap (λ (value : Option (List ℕ)). is_there value) none in cc)
 
-    not_swept : has_entry new.table key ≡ has_entry old.table key → is_swept swept new_order new.table key ≡ false → is_swept swept old_order old.table key ≡ false
-    not_swept same e =
-        by_tests (may_have swept.filter key) (has_entry old.table key) (has_entry new.table key) (is_below swept.below (place_in old_order key)) (is_below swept.below (place_in new_order key)) same
-        (λ has. below_still swept.below (place_in old_order key) (place_in new_order key) (keeps key (there has))) e
+    not_ahead : has_entry new.table key ≡ has_entry old.table key → is_ahead tour new_order new.table key ≡ false → is_ahead tour old_order old.table key ≡ false
+    not_ahead same e =
+        by_tests (may_have tour.filter key) (has_entry old.table key) (has_entry new.table key) (is_below tour.below (rank_in old_order key)) (is_below tour.below (rank_in new_order key)) same
+        (λ has. below_still tour.below (rank_in old_order key) (rank_in new_order key) (keeps key (there has))) e
 
--- the same four with a sweep
-module _ (swept : SweptKeys) (old_order new_order : List (List ℕ)) where
+-- the same four with a tour
+module _ (tour : TourKeys) (old_order new_order : List (List ℕ)) where
   -- a key was taken away and noted
   pub expired_due : (old_notes new_notes : NotedKeys) (old new : TimedTable) (at : List ℕ) (now : ℕ) (was_over : Bool) → TakesIfOver old at now was_over new
-      → NotesKey new.table old_notes at new_notes → KeepsPlaces old.table old_order new_order
-      → NotesChanges (is_due old_notes swept old_order old.table) old (is_due new_notes swept new_order new.table) new
+      → NotesKey new.table old_notes at new_notes → KeepsRanks old.table old_order new_order
+      → NotesChanges (is_due old_notes tour old_order old.table) old (is_due new_notes tour new_order new.table) new
   expired_due old_notes new_notes old new at now was_over takes notes keeps =
-      swept_too swept old_order new_order old_notes new_notes old new (expired_change old_notes new_notes old new at now was_over takes notes) keeps
+      ahead_too tour old_order new_order old_notes new_notes old new (expired_change old_notes new_notes old new at now was_over takes notes) keeps
 
   -- a call was made, and its key was noted
   pub made_due : (timing : Option Timing) (old_notes new_notes : NotedKeys) (old new : TimedTable) (invocation : Invocation) (timed : TimedReply) (bytes : List ℕ)
-      → MakesCall timing old invocation timed bytes new → NotesKey new.table old_notes invocation.key new_notes → KeepsPlaces old.table old_order new_order
-      → NotesChanges (is_due old_notes swept old_order old.table) old (is_due new_notes swept new_order new.table) new
+      → MakesCall timing old invocation timed bytes new → NotesKey new.table old_notes invocation.key new_notes → KeepsRanks old.table old_order new_order
+      → NotesChanges (is_due old_notes tour old_order old.table) old (is_due new_notes tour new_order new.table) new
   made_due timing old_notes new_notes old new invocation timed bytes made notes keeps =
-      swept_too swept old_order new_order old_notes new_notes old new (made_change timing old_notes new_notes old new invocation timed bytes made notes) keeps
+      ahead_too tour old_order new_order old_notes new_notes old new (made_change timing old_notes new_notes old new invocation timed bytes made notes) keeps
 
   -- a call was refused, and nothing was noted
-  pub refused_due : (timing : Option Timing) (notes : NotedKeys) (old new : TimedTable) (invocation : Invocation) → RefusesCall timing old invocation new → KeepsPlaces old.table old_order new_order
-      → NotesChanges (is_due notes swept old_order old.table) old (is_due notes swept new_order new.table) new
-  refused_due timing notes old new invocation refused keeps = swept_too swept old_order new_order notes notes old new (refused_change timing notes old new invocation refused) keeps
+  pub refused_due : (timing : Option Timing) (notes : NotedKeys) (old new : TimedTable) (invocation : Invocation) → RefusesCall timing old invocation new → KeepsRanks old.table old_order new_order
+      → NotesChanges (is_due notes tour old_order old.table) old (is_due notes tour new_order new.table) new
+  refused_due timing notes old new invocation refused keeps = ahead_too tour old_order new_order notes notes old new (refused_change timing notes old new invocation refused) keeps
 
   -- a call only read, and nothing was noted
   pub read_due : (timing : Option Timing) (notes : NotedKeys) (old new : TimedTable) (invocation : Invocation) (timed : TimedReply) (bytes : List ℕ)
-      → MakesCall timing old invocation timed bytes new → invocation.method ≡ get → LeavesSame timing timed → KeepsPlaces old.table old_order new_order
-      → NotesChanges (is_due notes swept old_order old.table) old (is_due notes swept new_order new.table) new
+      → MakesCall timing old invocation timed bytes new → invocation.method ≡ get → LeavesSame timing timed → KeepsRanks old.table old_order new_order
+      → NotesChanges (is_due notes tour old_order old.table) old (is_due notes tour new_order new.table) new
   read_due timing notes old new invocation timed bytes made reads same keeps =
-      swept_too swept old_order new_order notes notes old new (read_change timing notes old new invocation timed bytes made reads same) keeps
+      ahead_too tour old_order new_order notes notes old new (read_change timing notes old new invocation timed bytes made reads same) keeps

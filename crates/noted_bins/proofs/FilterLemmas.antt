@@ -7,16 +7,16 @@ use Rattle.std.proofs.lemmas.Bool.{cases_lt}
 use Rattle.std.proofs.lemmas.List.Elements.{All-nil, All-cons, All-append}
 use Rattle.bins.specs.Copies.{AreCopies}
 use Rattle.bins.specs.Entries.{entry_of}
-use Rattle.bins.specs.Places.{IsOneOf, is_below, place_in}
-use Rattle.bins.specs.declared.places.Places.{Places}
+use Rattle.bins.specs.Ranks.{IsOneOf, is_below, rank_in}
+use Rattle.bins.specs.declared.ranks.Ranks.{Ranks}
 use Rattle.bins.specs.Table.{Entry}
 use Rattle.timed_bins.specs.Deadlines.{TimedTable}
 use Rattle.noted_bins.specs.Filters.{may_have}
 use Rattle.noted_bins.specs.Marks.{mark_of, saved_as}
 use Rattle.noted_bins.specs.Notes.{is_filtered}
 use Rattle.noted_bins.specs.Rows.{Row, has_row, row_of}
-use Rattle.noted_bins.specs.Sweeps.{SweptKeys, is_swept}
-use Rattle.noted_bins.specs.Taking.{HandsOutAt, HandsOutFiltered, HandsOutPresent, HandsOutSwept}
+use Rattle.noted_bins.specs.Tours.{TourKeys, is_ahead}
+use Rattle.noted_bins.specs.Taking.{HandsOutAt, HandsOutFiltered, HandsOutPresent, HandsOutAhead}
 use Rattle.noted_bins.proofs.AllLemmas.{copied, found_at, moved}
 use Rattle.noted_bins.proofs.HandLemmas.{row_before, row_itself}
 use Rattle.noted_bins.proofs.MarkLemmas.{present}
@@ -84,49 +84,49 @@ module _ (table : TimedTable) (filter : List Bool) (entries : List Entry) (are :
         | inr same ↦ ap (has_row (before.0.rows ++ row ∷ [])) (ap (λ (k : ℕ). (entry_of entries k).0) same ∙ sym key_is) ∙ row_itself before.0.rows row
       ]
 
-  -- all were added that have these places
-  pub first_all : (order : List (List ℕ)) (places positions : Places) → positions.from ≡ from
-      → ((p : ℕ) → p < length entries → IsOneOf places (place_in order (entry_of entries p).0) → IsOneOf positions p)
+  -- all were added that have these ranks
+  pub first_all : (order : List (List ℕ)) (ranks positions : Ranks) → positions.from ≡ from
+      → ((p : ℕ) → p < length entries → IsOneOf ranks (rank_in order (entry_of entries p).0) → IsOneOf positions p)
       → (end last : ℕ) → ((p : ℕ) → p < length entries → is_below positions.to p ≡ true → p < end) → end ≤ last
-      → (new : List Row) → ((hands : HandsOutPresent table old new) × HasFirst filter entries from last hands.rows) → HandsOutAt table order filter places old new
-  first_all order places positions begins there end last below past new first = record { handed = first.0; known = known }
+      → (new : List Row) → ((hands : HandsOutPresent table old new) × HasFirst filter entries from last hands.rows) → HandsOutAt table order filter ranks old new
+  first_all order ranks positions begins there end last below past new first = record { handed = first.0; known = known }
     where
-      known : (key : List ℕ) → is_filtered filter table.table key ≡ true → IsOneOf places (place_in order key) → has_row first.0.rows key ≡ true
+      known : (key : List ℕ) → is_filtered filter table.table key ≡ true → IsOneOf ranks (rank_in order key) → has_row first.0.rows key ≡ true
       known key e among =
           let both = both_true (may_have filter key) (map.get table.table key) e in
           let found = found_at key both.1.0 (map.entries table.table) (sym (get-entries table.table key) ∙ both.1.1) in
           let place = moved (map.entries table.table) entries (λ weight. sym (are weight)) found.0 found.1.0 in
           let here : (entry_of entries place.0).0 ≡ key = place.1.1 ∙ found.1.1 in
-          let position = there place.0 place.1.0 (subst (λ (k : List ℕ). IsOneOf places (place_in order k)) (sym here) among) in
+          let position = there place.0 place.1.0 (subst (λ (k : List ℕ). IsOneOf ranks (rank_in order k)) (sym here) among) in
           let before : place.0 < end = below place.0 place.1.0 position.1 in
           let low : from ≤ place.0 = omega (arith, begins, position.0) in
           let high : place.0 < last = omega (arith, before, past) in
           ap (has_row first.0.rows) (sym here) ∙ first.1 place.0 low high (ap (may_have filter) here ∙ both.0)
 
 -- all keys were taken out of the filter
-pub all_forgotten : (table : TimedTable) (order : List (List ℕ)) (filter filter' : List Bool) (places : Places) (old new : List Row) → HandsOutAt table order filter places old new
-    → places.from ≡ 0 → places.to ≡ None → HandsOutFiltered table filter filter' old new
-all_forgotten table order filter filter' places old new hands from to = record {
+pub all_forgotten : (table : TimedTable) (order : List (List ℕ)) (filter filter' : List Bool) (ranks : Ranks) (old new : List Row) → HandsOutAt table order filter ranks old new
+    → ranks.from ≡ 0 → ranks.to ≡ None → HandsOutFiltered table filter filter' old new
+all_forgotten table order filter filter' ranks old new hands from to = record {
   handed = hands.handed;
-  known = λ key e was. hands.known key was (omega (arith, from), ap (λ (end : Option ℕ). is_below end (place_in order key)) to);
+  known = λ key e was. hands.known key was (omega (arith, from), ap (λ (end : Option ℕ). is_below end (rank_in order key)) to);
 }
 
 -- nothing was taken out
 pub kept_all : (table : TimedTable) (filter : List Bool) (old new : List Row) → HandsOutPresent table old new → HandsOutFiltered table filter filter old new
 kept_all table filter old new hands = record { handed = hands; known = λ key e was. absurd (let both = sym e ∙ was in cc) }
 
--- the sweep left the keys at these places behind, or stays as it is
-pub passed : (table : TimedTable) (order : List (List ℕ)) (before after : SweptKeys) (places : Places) (old new : List Row) → HandsOutAt table order before.filter places old new
-    → ((key : List ℕ) → is_swept after order table.table key ≡ false → is_swept before order table.table key ≡ true → IsOneOf places (place_in order key))
-    → HandsOutSwept table order before after old new
-passed table order before after places old new hands left = record { handed = hands.handed; known = known }
+-- the tour left the keys at these ranks behind, or stays as it is
+pub passed : (table : TimedTable) (order : List (List ℕ)) (before after : TourKeys) (ranks : Ranks) (old new : List Row) → HandsOutAt table order before.filter ranks old new
+    → ((key : List ℕ) → is_ahead after order table.table key ≡ false → is_ahead before order table.table key ≡ true → IsOneOf ranks (rank_in order key))
+    → HandsOutAhead table order before after old new
+passed table order before after ranks old new hands left = record { handed = hands.handed; known = known }
   where
     filtered : (below : Bool) (there : Bool) → cond below there false ≡ true → there ≡ true
     filtered true there e = e
     filtered false there e = absurd cc
 
-    known : (key : List ℕ) → is_swept after order table.table key ≡ false → is_swept before order table.table key ≡ true → has_row hands.handed.rows key ≡ true
-    known key e was = hands.known key (filtered (is_below before.below (place_in order key)) (is_filtered before.filter table.table key) was) (left key e was)
+    known : (key : List ℕ) → is_ahead after order table.table key ≡ false → is_ahead before order table.table key ≡ true → has_row hands.handed.rows key ≡ true
+    known key e was = hands.known key (filtered (is_below before.below (rank_in order key)) (is_filtered before.filter table.table key) was) (left key e was)
 
-pub stayed : (table : TimedTable) (order : List (List ℕ)) (swept : SweptKeys) (old new : List Row) → HandsOutPresent table old new → HandsOutSwept table order swept swept old new
-stayed table order swept old new hands = record { handed = hands; known = λ key e was. absurd (let both = sym e ∙ was in cc) }
+pub stayed : (table : TimedTable) (order : List (List ℕ)) (tour : TourKeys) (old new : List Row) → HandsOutPresent table old new → HandsOutAhead table order tour tour old new
+stayed table order tour old new hands = record { handed = hands; known = λ key e was. absurd (let both = sym e ∙ was in cc) }

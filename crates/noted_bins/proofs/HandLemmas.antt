@@ -3,7 +3,7 @@ use Rattle.std.proofs.Common.{◌≡◌, ℕ, Bool, true, false, cond, List, [],
 use Rattle.std.specs.Prelude.{OnErr, is_err, is_some as is_there}
 use Rattle.std.specs.FinMap as finite
 use Rattle.std.proofs.lemmas.List.Elements.{All-nil, All-cons, All-append}
-use Rattle.bins.specs.Places.{is_below, place_in}
+use Rattle.bins.specs.Ranks.{is_below, rank_in}
 use Rattle.bins.specs.Table.{Table}
 use Rattle.bins.proofs.DistinctEntries.{same_itself, differ}
 use Rattle.timed_bins.specs.Deadlines.{TimedTable}
@@ -12,8 +12,8 @@ use Rattle.noted_bins.specs.Hands.{HandsOut}
 use Rattle.noted_bins.specs.Filters.{may_have}
 use Rattle.noted_bins.specs.Notes.{NotedKeys, TakesChanges, has_entry, has_key, is_filtered, is_noted, is_some}
 use Rattle.noted_bins.specs.Rows.{Row, has_row, row_of, same_key}
-use Rattle.noted_bins.specs.Sweeps.{HandsOver, SweptKeys, is_due, is_swept}
-use Rattle.noted_bins.specs.Taking.{HandsOutAll, HandsOutFiltered, HandsOutSwept}
+use Rattle.noted_bins.specs.Tours.{HandsOver, TourKeys, is_due, is_ahead}
+use Rattle.noted_bins.specs.Taking.{HandsOutAll, HandsOutFiltered, HandsOutAhead}
 use Rattle.noted_bins.proofs.KeyLemmas.{either_false, filtered_there, neither, not_in, not_noted, same_or_not, unnoted}
 
 -- nothing was handed out
@@ -142,29 +142,29 @@ module _ (table : TimedTable) where
   hands_less first second third rows hands less = record { present = hands.present; known = λ key e. hands.known key (less key e) }
 
   -- from the lists
-  pub hands_lists : (old new : NotedKeys) (swept : SweptKeys) (order : List (List ℕ)) (rows : List Row) → HandsOut old table rows new
-      → HandsOver (is_due old swept order table.table) table rows (is_due new swept order table.table)
-  hands_lists old new swept order rows hands = record { present = hands.present; known = known }
+  pub hands_lists : (old new : NotedKeys) (tour : TourKeys) (order : List (List ℕ)) (rows : List Row) → HandsOut old table rows new
+      → HandsOver (is_due old tour order table.table) table rows (is_due new tour order table.table)
+  hands_lists old new tour order rows hands = record { present = hands.present; known = known }
     where
-      known : (key : List ℕ) → is_due new swept order table.table key ≡ false → (has_row rows key ≡ true) ⊎ (is_due old swept order table.table key ≡ false)
+      known : (key : List ℕ) → is_due new tour order table.table key ≡ false → (has_row rows key ≡ true) ⊎ (is_due old tour order table.table key ≡ false)
       known key e =
-          let parts = neither (is_noted new table.table key) (is_swept swept order table.table key) e in
+          let parts = neither (is_noted new table.table key) (is_ahead tour order table.table key) e in
           elim (hands.known key parts.0) [
             | inl has ↦ inl has
-            | inr not ↦ inr (either_false (is_noted old table.table key) (is_swept swept order table.table key) not parts.1)
+            | inr not ↦ inr (either_false (is_noted old table.table key) (is_ahead tour order table.table key) not parts.1)
           ]
 
-  -- by a sweep
-  pub hands_swept : (notes : NotedKeys) (old new : SweptKeys) (order : List (List ℕ)) (before after : List Row) (hands : HandsOutSwept table order old new before after)
+  -- by a tour
+  pub hands_ahead : (notes : NotedKeys) (old new : TourKeys) (order : List (List ℕ)) (before after : List Row) (hands : HandsOutAhead table order old new before after)
       → HandsOver (is_due notes old order table.table) table hands.handed.rows (is_due notes new order table.table)
-  hands_swept notes old new order before after hands = record { present = hands.handed.present; known = known }
+  hands_ahead notes old new order before after hands = record { present = hands.handed.present; known = known }
     where
       known : (key : List ℕ) → is_due notes new order table.table key ≡ false → (has_row hands.handed.rows key ≡ true) ⊎ (is_due notes old order table.table key ≡ false)
       known key e =
-          let parts = neither (is_noted notes table.table key) (is_swept new order table.table key) e in
-          elim (noted_or_not (is_swept old order table.table key)) [
+          let parts = neither (is_noted notes table.table key) (is_ahead new order table.table key) e in
+          elim (noted_or_not (is_ahead old order table.table key)) [
             | inl was ↦ inl (hands.known key parts.1 was)
-            | inr not ↦ inr (either_false (is_noted notes table.table key) (is_swept old order table.table key) parts.0 not)
+            | inr not ↦ inr (either_false (is_noted notes table.table key) (is_ahead old order table.table key) parts.0 not)
           ]
 
   takes_some : (due due' : List ℕ → Bool) (rows : List Row) → HandsOver due table rows due' → TakesChanges due table SomeTaken rows due' table
@@ -178,50 +178,50 @@ module _ (table : TimedTable) where
   takes_rest : (due due' : List ℕ → Bool) (rows : List Row) → HandsOver due table rows due' → ((key : List ℕ) → due' key ≡ false) → TakesChanges due table Rest rows due' table
   takes_rest due due' rows hands none = record { same = refl; present = hands.present; known = hands.known; none = λ _ key. none key }
 
--- a sweep that is off hands nothing out
-pub off_swept : (swept : SweptKeys) (order : List (List ℕ)) (table : Table) (key : List ℕ) → swept.filter ≡ [] → is_swept swept order table key ≡ false
-off_swept swept order table key off = by_place (is_below swept.below (place_in order key))
+-- a tour that is off hands nothing out
+pub off_ahead : (tour : TourKeys) (order : List (List ℕ)) (table : Table) (key : List ℕ) → tour.filter ≡ [] → is_ahead tour order table key ≡ false
+off_ahead tour order table key off = by_place (is_below tour.below (rank_in order key))
   where
-    by_place : (below : Bool) → cond below (is_filtered swept.filter table key) false ≡ false
+    by_place : (below : Bool) → cond below (is_filtered tour.filter table key) false ≡ false
     by_place true = ap (λ (f : List Bool). is_filtered f table key) off
     by_place false = refl
 
--- a sweep that begins hands out all that its filter may have
-pub begun_swept : (swept : SweptKeys) (order : List (List ℕ)) (table : Table) (key : List ℕ) → swept.below ≡ None → is_swept swept order table key ≡ is_filtered swept.filter table key
-begun_swept swept order table key begins = ap (λ (below : Option ℕ). cond (is_below below (place_in order key)) (is_filtered swept.filter table key) false) begins
+-- a tour that begins hands out all that its filter may have
+pub begun_ahead : (tour : TourKeys) (order : List (List ℕ)) (table : Table) (key : List ℕ) → tour.below ≡ None → is_ahead tour order table key ≡ is_filtered tour.filter table key
+begun_ahead tour order table key begins = ap (λ (below : Option ℕ). cond (is_below below (rank_in order key)) (is_filtered tour.filter table key) false) begins
 
--- the keys of the filter go to a sweep
-pub filter_swept : (old new : NotedKeys) (before after : SweptKeys) (order : List (List ℕ)) (table : Table) → old.all ≡ false → new.keys ≡ old.keys → before.filter ≡ [] → after.filter ≡ old.filter
+-- the keys of the filter go to a tour
+pub filter_ahead : (old new : NotedKeys) (before after : TourKeys) (order : List (List ℕ)) (table : Table) → old.all ≡ false → new.keys ≡ old.keys → before.filter ≡ [] → after.filter ≡ old.filter
     → after.below ≡ None → (key : List ℕ) → is_due new after order table key ≡ false → is_due old before order table key ≡ false
-filter_swept old new before after order table all keys off taken begins key e =
-    let parts = neither (is_noted new table key) (is_swept after order table key) e in
+filter_ahead old new before after order table all keys off taken begins key e =
+    let parts = neither (is_noted new table key) (is_ahead after order table key) e in
     let why = unnoted new table key parts.0 in
     let listed : has_key old.keys key ≡ false = ap (λ (ks : List (List ℕ)). has_key ks key) (sym keys) ∙ why.1.0 in
     let filtered : is_filtered old.filter table key ≡ false =
-    ap (λ (f : List Bool). is_filtered f table key) (sym taken) ∙ sym (begun_swept after order table key begins) ∙ parts.1 in
-    either_false (is_noted old table key) (is_swept before order table key) (not_noted old table key all listed filtered) (off_swept before order table key off)
+    ap (λ (f : List Bool). is_filtered f table key) (sym taken) ∙ sym (begun_ahead after order table key begins) ∙ parts.1 in
+    either_false (is_noted old table key) (is_ahead before order table key) (not_noted old table key all listed filtered) (off_ahead before order table key off)
 
 -- none is due
-none_due : (new : NotedKeys) (swept : SweptKeys) (order : List (List ℕ)) (table : TimedTable) → new.all ≡ false → new.keys ≡ [] → new.filter ≡ [] → swept.filter ≡ []
-    → (key : List ℕ) → is_due new swept order table.table key ≡ false
-none_due new swept order table all none off ended key =
-    either_false (is_noted new table.table key) (is_swept swept order table.table key) (none_noted new table all none off key) (off_swept swept order table.table key ended)
+none_due : (new : NotedKeys) (tour : TourKeys) (order : List (List ℕ)) (table : TimedTable) → new.all ≡ false → new.keys ≡ [] → new.filter ≡ [] → tour.filter ≡ []
+    → (key : List ℕ) → is_due new tour order table.table key ≡ false
+none_due new tour order table all none off ended key =
+    either_false (is_noted new table.table key) (is_ahead tour order table.table key) (none_noted new table all none off key) (off_ahead tour order table.table key ended)
 
--- a sweep that was off is off
-off_still : (notes : NotedKeys) (before after : SweptKeys) (order : List (List ℕ)) (table : Table) → before.filter ≡ [] → (key : List ℕ) → is_due notes after order table key ≡ false
+-- a tour that was off is off
+off_still : (notes : NotedKeys) (before after : TourKeys) (order : List (List ℕ)) (table : Table) → before.filter ≡ [] → (key : List ℕ) → is_due notes after order table key ≡ false
     → is_due notes before order table key ≡ false
 off_still notes before after order table off key e =
-    let parts = neither (is_noted notes table key) (is_swept after order table key) e in
-    either_false (is_noted notes table key) (is_swept before order table key) parts.0 (off_swept before order table key off)
+    let parts = neither (is_noted notes table key) (is_ahead after order table key) e in
+    either_false (is_noted notes table key) (is_ahead before order table key) parts.0 (off_ahead before order table key off)
 
 -- rows of the lists were handed out, but not all of them
-pub took_part : (old new : NotedKeys) (swept : SweptKeys) (order : List (List ℕ)) (table : TimedTable) (first changes : List Row)
+pub took_part : (old new : NotedKeys) (tour : TourKeys) (order : List (List ℕ)) (table : TimedTable) (first changes : List Row)
     → ((rows : List Row) × ((changes ≡ first ++ rows) × HandsOut old table rows new))
-    → (rows : List Row) × ((changes ≡ first ++ rows) × TakesChanges (is_due old swept order table.table) table SomeTaken rows (is_due new swept order table.table) table)
-took_part old new swept order table first changes before = (before.0, (before.1.0, takes_some table _ _ before.0 (hands_lists table old new swept order before.0 before.1.1)))
+    → (rows : List Row) × ((changes ≡ first ++ rows) × TakesChanges (is_due old tour order table.table) table SomeTaken rows (is_due new tour order table.table) table)
+took_part old new tour order table first changes before = (before.0, (before.1.0, takes_some table _ _ before.0 (hands_lists table old new tour order before.0 before.1.1)))
 
 -- .. all of them, and the filter is off
-pub took_lists : (old new : NotedKeys) (before after : SweptKeys) (order : List (List ℕ)) (table : TimedTable) (first changes : List Row)
+pub took_lists : (old new : NotedKeys) (before after : TourKeys) (order : List (List ℕ)) (table : TimedTable) (first changes : List Row)
     → ((rows : List Row) × ((changes ≡ first ++ rows) × HandsOut old table rows new)) → new.keys ≡ [] → new.filter ≡ [] → before.filter ≡ [] → after.filter ≡ []
     → (rows : List Row) × ((changes ≡ first ++ rows) × TakesChanges (is_due old before order table.table) table Rest rows (is_due new after order table.table) table)
 took_lists old new before after order table first changes handed empty off was ended = (
@@ -234,15 +234,15 @@ took_lists old new before after order table first changes handed empty off was e
   ),
 )
 
--- a sweep handed out rows
-pub took_swept : (notes : NotedKeys) (old new : SweptKeys) (order : List (List ℕ)) (table : TimedTable) (before after : List Row) → HandsOutSwept table order old new before after
+-- a tour handed out rows
+pub took_ahead : (notes : NotedKeys) (old new : TourKeys) (order : List (List ℕ)) (table : TimedTable) (before after : List Row) → HandsOutAhead table order old new before after
     → (rows : List Row) × ((after ≡ before ++ rows) × TakesChanges (is_due notes old order table.table) table SomeTaken rows (is_due notes new order table.table) table)
-took_swept notes old new order table before after hands = (hands.handed.rows, (hands.handed.added, takes_some table _ _ _ (hands_swept table notes old new order before after hands)))
+took_ahead notes old new order table before after hands = (hands.handed.rows, (hands.handed.added, takes_some table _ _ _ (hands_ahead table notes old new order before after hands)))
 
--- rows of the lists were handed out, and then the first ones of a sweep
-pub took_first : (old between new : NotedKeys) (before mid after : SweptKeys) (order : List (List ℕ)) (table : TimedTable) (first changes more : List Row)
+-- rows of the lists were handed out, and then the first ones of a tour
+pub took_first : (old between new : NotedKeys) (before mid after : TourKeys) (order : List (List ℕ)) (table : TimedTable) (first changes more : List Row)
     → ((rows : List Row) × ((changes ≡ first ++ rows) × HandsOut old table rows between)) → new.keys ≡ between.keys → before.filter ≡ [] → mid.filter ≡ between.filter → mid.below ≡ None
-    → HandsOutSwept table order mid after changes more
+    → HandsOutAhead table order mid after changes more
     → (rows : List Row) × ((more ≡ first ++ rows) × TakesChanges (is_due old before order table.table) table SomeTaken rows (is_due new after order table.table) table)
 took_first old between new before mid after order table first changes more lists keys off taken begins hands = (
   lists.0 ++ hands.handed.rows,
@@ -251,8 +251,8 @@ took_first old between new before mid after order table first changes more lists
     takes_some table _ _ _
         (hands_then table _ (is_due new mid order table.table) _ lists.0 hands.handed.rows
         (hands_less table _ (is_due between before order table.table) _ lists.0 (hands_lists table old between before order lists.0 lists.1.1)
-        (filter_swept between new before mid order table.table lists.1.1.all keys off taken begins))
-        (hands_swept table new mid after order changes more hands)),
+        (filter_ahead between new before mid order table.table lists.1.1.all keys off taken begins))
+        (hands_ahead table new mid after order changes more hands)),
   ),
 )
 
@@ -289,9 +289,9 @@ module _ (old between new : NotedKeys) (table : TimedTable) (first changes more 
     ),
   )
 
--- a sweep of all entries began
-pub took_begun : (due : List ℕ → Bool) (new : NotedKeys) (mid after : SweptKeys) (order : List (List ℕ)) (table : TimedTable) (changes more : List Row) → ((key : List ℕ) → may_have mid.filter key ≡ true)
-    → mid.below ≡ None → HandsOutSwept table order mid after changes more
+-- a tour of all entries began
+pub took_begun : (due : List ℕ → Bool) (new : NotedKeys) (mid after : TourKeys) (order : List (List ℕ)) (table : TimedTable) (changes more : List Row) → ((key : List ℕ) → may_have mid.filter key ≡ true)
+    → mid.below ≡ None → HandsOutAhead table order mid after changes more
     → (rows : List Row) × ((more ≡ changes ++ rows) × TakesChanges due table Begun rows (is_due new after order table.table) table)
 took_begun due new mid after order table changes more may begins hands = (
   hands.handed.rows,
@@ -313,14 +313,14 @@ took_begun due new mid after order table changes more may begins hands = (
         by_entry None is = inr is
         by_entry (Some value) is =
             let there : has_entry table.table key ≡ true = ap (λ (v : Option (List ℕ)). is_there v) is in
-            inl (hands.known key (neither (is_noted new table.table key) (is_swept after order table.table key) e).1
-            (begun_swept mid order table.table key begins ∙ filtered_there mid.filter table.table key (may key) there))
+            inl (hands.known key (neither (is_noted new table.table key) (is_ahead after order table.table key) e).1
+            (begun_ahead mid order table.table key begins ∙ filtered_there mid.filter table.table key (may key) there))
 
 -- all entries were taken
-pub took_all : (due : List ℕ → Bool) (new : NotedKeys) (swept : SweptKeys) (order : List (List ℕ)) (table : TimedTable) (before after : List Row) → HandsOutAll table before after → new.all ≡ false
-    → new.keys ≡ [] → new.filter ≡ [] → swept.filter ≡ []
-    → (rows : List Row) × ((after ≡ before ++ rows) × TakesChanges due table AllTaken rows (is_due new swept order table.table) table)
-took_all due new swept order table before after hands all none off ended = (
+pub took_all : (due : List ℕ → Bool) (new : NotedKeys) (tour : TourKeys) (order : List (List ℕ)) (table : TimedTable) (before after : List Row) → HandsOutAll table before after → new.all ≡ false
+    → new.keys ≡ [] → new.filter ≡ [] → tour.filter ≡ []
+    → (rows : List Row) × ((after ≡ before ++ rows) × TakesChanges due table AllTaken rows (is_due new tour order table.table) table)
+took_all due new tour order table before after hands all none off ended = (
   hands.rows,
   (
     hands.added,
@@ -328,7 +328,7 @@ took_all due new swept order table before after hands all none off ended = (
       same = refl;
       present = hands.present;
       known = λ key e. hands.known key;
-      none = λ _ key. none_due new swept order table all none off ended key;
+      none = λ _ key. none_due new tour order table all none off ended key;
     },
   ),
 )

@@ -2,6 +2,6 @@ pub mod Rows
 pub mod Filters
 pub mod Notes
 pub mod Marks
-pub mod Sweeps
+pub mod Tours
 pub mod Hands
 pub mod Taking

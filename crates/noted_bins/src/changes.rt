@@ -7,7 +7,7 @@ ghost use Rattle.noted_bins.specs.Taking.{HandsOutAll, HandsOutAt, HandsOutPrese
 
 use crate::key_filter::KeyFilter;
 use crate::mark::{Mark, SavedEntry};
-use bins::{EntryList, HashedKey, Places};
+use bins::{EntryList, HashedKey, Ranks};
 use bpf_model::limits::{KEY_BYTES, VALUE_BYTES};
 use bpf_model::{Key, NoMemory};
 use std::alloc::Global;
@@ -105,20 +105,20 @@ impl Changes {
         Ok(())
     }
 
-    /// Adds a row of each entry whose key the filter may have, if its place is one of these. Returns `NoMemory` if a request for memory
+    /// Adds a row of each entry whose key the filter may have, if its rank is one of these. Returns `NoMemory` if a request for memory
     /// is refused; then rows of some of them were added.
     pub(crate) fn add_filtered<T: TimedBins>(
         &mut self,
         bins: &T,
         filter: &KeyFilter,
-        places: Places,
+        ranks: Ranks,
     ) -> Result<(), NoMemory>
         ensures ok { OnOk result (HandsOutAt
-            (timed_table (T.table bins.now) (T.deadline bins.now) (T.latest bins.now)) (T.order bins.now) filter.now places self.old self.new) }
+            (timed_table (T.table bins.now) (T.deadline bins.now) (T.latest bins.now)) (T.order bins.now) filter.now ranks self.old self.new) }
         ensures err { OnErr result (HandsOutPresent
             (timed_table (T.table bins.now) (T.deadline bins.now) (T.latest bins.now)) self.old self.new) }
     {
-        let (entries, positions) = bins.lend_at(places);
+        let (entries, positions) = bins.lend_at(ranks);
         let from = positions.from;
         for position in from..positions.end_among(entries.len()) {
             let (bytes, value) = entries.get(position);

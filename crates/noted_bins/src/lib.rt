@@ -16,7 +16,7 @@ mod noted;
 mod noted_bins;
 mod notes;
 mod short_key;
-mod sweep;
+mod tour;
 mod taken;
 
 pub use changes::Changes;

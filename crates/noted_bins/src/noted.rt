@@ -2,22 +2,22 @@
 ghost use Rattle.std.specs.Prelude.{◌≡◌, ◌≤◌, ◌++◌, [], true, false, List, length, IsTrue, IfOk, OnErr, option_copied};
 ghost use Rattle.std.specs.FinMap as map;
 ghost use Rattle.atomic_methods.specs.Invocations.{get, invocation_of};
-ghost use Rattle.bins.specs.Places.{KeepsPlaces};
+ghost use Rattle.bins.specs.Ranks.{KeepsRanks};
 ghost use Rattle.timed_bins.specs.Deadlines.{timed_table, MakesCall, RefusesCall, Expires};
 ghost use Rattle.noted_bins.specs.Hands.{HandsOut, LeavesSame};
 ghost use Rattle.noted_bins.specs.Notes.{NotesChanges, TakesChanges, is_all, is_anew};
 ghost use Rattle.noted_bins.specs.Rows.{Row};
-ghost use Rattle.noted_bins.specs.Sweeps.{is_due};
-ghost use Rattle.noted_bins.specs.Taking.{HandsOutFiltered, HandsOutSwept};
+ghost use Rattle.noted_bins.specs.Tours.{is_due};
+ghost use Rattle.noted_bins.specs.Taking.{HandsOutFiltered, HandsOutAhead};
 ghost use Rattle.noted_bins.specs.declared.taken.Taken.TheVariants.{All as AllTaken};
 
 use crate::changes::Changes;
 use crate::noted_bins::NotedBins;
 use crate::notes::Notes;
-use crate::sweep::Sweep;
+use crate::tour::Tour;
 use crate::taken::Taken;
 use atomic_methods::{Call, HashedCall, Workspace};
-use bins::{Bins, Counts, HashedKey, LentEntries, Occupied, Occupies, Opening, Places};
+use bins::{Bins, Counts, HashedKey, LentEntries, Occupied, Occupies, Opening, Ranks};
 use bpf_model::{NoMemory, Value};
 use std::alloc::Global;
 use timed_bins::{Expiry, TimedBins, TimedReply, Timing};
@@ -29,7 +29,7 @@ use verifier::Verified;
 pub struct Noted<T: TimedBins> {
     bins: T,
     notes: Notes,
-    sweep: Sweep,
+    tour: Tour,
 }
 
 impl<T: TimedBins + Drop> Noted<T> {
@@ -48,10 +48,10 @@ impl<T: TimedBins + Drop> Noted<T> {
         ensures err { OnErr result (RefusesCall (option_copied timing.entry)
             (timed_table (T.table self.old.bins) (T.deadline self.old.bins) (T.latest self.old.bins)) call.now
             (timed_table (T.table self.new.bins) (T.deadline self.new.bins) (T.latest self.new.bins))) }
-        ensures notes { NotesChanges (is_due self.old.notes self.old.sweep (T.order self.old.bins) (T.table self.old.bins))
-            (timed_table (T.table self.old.bins) (T.deadline self.old.bins) (T.latest self.old.bins)) (is_due self.new.notes self.new.sweep (T.order self.new.bins) (T.table self.new.bins))
+        ensures notes { NotesChanges (is_due self.old.notes self.old.tour (T.order self.old.bins) (T.table self.old.bins))
+            (timed_table (T.table self.old.bins) (T.deadline self.old.bins) (T.latest self.old.bins)) (is_due self.new.notes self.new.tour (T.order self.new.bins) (T.table self.new.bins))
             (timed_table (T.table self.new.bins) (T.deadline self.new.bins) (T.latest self.new.bins)) }
-        ensures places { KeepsPlaces (T.table self.old.bins) (T.order self.old.bins) (T.order self.new.bins) }
+        ensures ranks { KeepsRanks (T.table self.old.bins) (T.order self.old.bins) (T.order self.new.bins) }
     {
         let timed = self.bins.call(call, timing, workspace, bytes)?;
         if !is_get(call.call()) || changes_deadline(timing, &timed) {
@@ -64,10 +64,10 @@ impl<T: TimedBins + Drop> Noted<T> {
     fn expire(&mut self, now: u64) -> Expiry
         ensures expires { Expires (timed_table (T.table self.old.bins) (T.deadline self.old.bins) (T.latest self.old.bins)) now result
             (timed_table (T.table self.new.bins) (T.deadline self.new.bins) (T.latest self.new.bins)) }
-        ensures notes { NotesChanges (is_due self.old.notes self.old.sweep (T.order self.old.bins) (T.table self.old.bins))
-            (timed_table (T.table self.old.bins) (T.deadline self.old.bins) (T.latest self.old.bins)) (is_due self.new.notes self.new.sweep (T.order self.new.bins) (T.table self.new.bins))
+        ensures notes { NotesChanges (is_due self.old.notes self.old.tour (T.order self.old.bins) (T.table self.old.bins))
+            (timed_table (T.table self.old.bins) (T.deadline self.old.bins) (T.latest self.old.bins)) (is_due self.new.notes self.new.tour (T.order self.new.bins) (T.table self.new.bins))
             (timed_table (T.table self.new.bins) (T.deadline self.new.bins) (T.latest self.new.bins)) }
-        ensures places { KeepsPlaces (T.table self.old.bins) (T.order self.old.bins) (T.order self.new.bins) }
+        ensures ranks { KeepsRanks (T.table self.old.bins) (T.order self.old.bins) (T.order self.new.bins) }
     {
         match self.bins.expire_one(now) {
             Expiry::Took(key) => {
@@ -121,17 +121,17 @@ fn take_listed<T: TimedBins>(
     Ok(notes.is_empty())
 }
 
-/// Adds rows of the keys at the sweep's next places to the changes. If a request for memory is refused, some of the rows are added, and
-/// the sweep stays as it is.
-fn take_swept<T: TimedBins>(bins: &T, sweep: &mut Sweep, most: usize, changes: &mut Changes)
-    ensures { HandsOutSwept (timed_table (T.table bins.now) (T.deadline bins.now) (T.latest bins.now)) (T.order bins.now)
-        sweep.old sweep.new changes.old changes.new }
+/// Adds rows of the keys at the tour's next ranks to the changes. If a request for memory is refused, some of the rows are added, and
+/// the tour stays as it is.
+fn take_ahead<T: TimedBins>(bins: &T, tour: &mut Tour, most: usize, changes: &mut Changes)
+    ensures { HandsOutAhead (timed_table (T.table bins.now) (T.deadline bins.now) (T.latest bins.now)) (T.order bins.now)
+        tour.old tour.new changes.old changes.new }
 {
-    let places = sweep.next_places(most, bins.count() as usize);
-    if changes.add_filtered(bins, sweep.filter(), places).is_err() {
+    let ranks = tour.next_ranks(most, bins.count() as usize);
+    if changes.add_filtered(bins, tour.filter(), ranks).is_err() {
         return;
     }
-    sweep.pass(places);
+    tour.leave(ranks);
 }
 
 /// Adds rows of all entries that the filter may have to the changes, and turns it off. If a request for memory is refused, some of the rows
@@ -144,7 +144,7 @@ fn take_filtered<T: TimedBins>(bins: &T, notes: &mut Notes, changes: &mut Change
     ensures off { IsTrue result → notes.new.filter ≡ [] }
 {
     if changes
-        .add_filtered(bins, notes.filter(), Places::all())
+        .add_filtered(bins, notes.filter(), Ranks::all())
         .is_err()
     {
         return false;
@@ -153,39 +153,39 @@ fn take_filtered<T: TimedBins>(bins: &T, notes: &mut Notes, changes: &mut Change
     true
 }
 
-/// Adds rows of noted keys to the changes: those of the lists, at most `most`; then those of the filter, by a sweep in parts, or all
+/// Adds rows of noted keys to the changes: those of the lists, at most `most`; then those of the filter, by a tour in parts, or all
 /// at once if keys change faster than they are handed out.
 fn take_some<T: TimedBins>(
     bins: &T,
     notes: &mut Notes,
-    sweep: &mut Sweep,
+    tour: &mut Tour,
     most: usize,
     changes: &mut Changes,
 ) -> Result<Taken, NoMemory>
     requires { notes.old.all ≡ false }
     ensures ok { IfOk result (λ taken. (rows : List Row) × ((changes.new ≡ changes.old ++ rows)
-        × TakesChanges (is_due notes.old sweep.old (T.order bins.now) (T.table bins.now)) (timed_table (T.table bins.now) (T.deadline bins.now) (T.latest bins.now))
-        taken rows (is_due notes.new sweep.new (T.order bins.now) (T.table bins.now)) (timed_table (T.table bins.now) (T.deadline bins.now) (T.latest bins.now)))) }
-    ensures err { OnErr result ((changes.new ≡ changes.old) × (notes.new ≡ notes.old) × (sweep.new ≡ sweep.old)) }
+        × TakesChanges (is_due notes.old tour.old (T.order bins.now) (T.table bins.now)) (timed_table (T.table bins.now) (T.deadline bins.now) (T.latest bins.now))
+        taken rows (is_due notes.new tour.new (T.order bins.now) (T.table bins.now)) (timed_table (T.table bins.now) (T.deadline bins.now) (T.latest bins.now)))) }
+    ensures err { OnErr result ((changes.new ≡ changes.old) × (notes.new ≡ notes.old) × (tour.new ≡ tour.old)) }
 {
-    if sweep.is_on() {
-        take_swept(bins, sweep, most, changes);
+    if tour.is_on() {
+        take_ahead(bins, tour, most, changes);
         return Ok(Taken::Some);
     }
     if !take_listed(bins, notes, most, changes)? {
         return Ok(Taken::Some);
     }
     if !notes.is_filtered() {
-        sweep.end();
+        tour.end();
         return Ok(Taken::Rest);
     }
-    if sweep.may_follow() {
-        sweep.begin(notes.take_filter());
-        take_swept(bins, sweep, most, changes);
+    if tour.may_follow() {
+        tour.begin(notes.take_filter());
+        take_ahead(bins, tour, most, changes);
         return Ok(Taken::Some);
     }
     if take_filtered(bins, notes, changes) {
-        sweep.end();
+        tour.end();
         return Ok(Taken::Rest);
     }
     Ok(Taken::Some)
@@ -195,46 +195,46 @@ fn take_some<T: TimedBins>(
 fn take_all<T: TimedBins>(
     bins: &T,
     notes: &mut Notes,
-    sweep: &mut Sweep,
+    tour: &mut Tour,
     changes: &mut Changes,
 ) -> Result<Taken, NoMemory>
     ensures ok { IfOk result (λ taken. (rows : List Row) × ((changes.new ≡ changes.old ++ rows)
-        × TakesChanges (is_due notes.old sweep.old (T.order bins.now) (T.table bins.now)) (timed_table (T.table bins.now) (T.deadline bins.now) (T.latest bins.now))
-        taken rows (is_due notes.new sweep.new (T.order bins.now) (T.table bins.now)) (timed_table (T.table bins.now) (T.deadline bins.now) (T.latest bins.now)))) }
+        × TakesChanges (is_due notes.old tour.old (T.order bins.now) (T.table bins.now)) (timed_table (T.table bins.now) (T.deadline bins.now) (T.latest bins.now))
+        taken rows (is_due notes.new tour.new (T.order bins.now) (T.table bins.now)) (timed_table (T.table bins.now) (T.deadline bins.now) (T.latest bins.now)))) }
     ensures all { IfOk result (λ taken. taken ≡ AllTaken) }
-    ensures err { OnErr result ((changes.new ≡ changes.old) × (notes.new ≡ notes.old) × (sweep.new ≡ sweep.old)) }
+    ensures err { OnErr result ((changes.new ≡ changes.old) × (notes.new ≡ notes.old) × (tour.new ≡ tour.old)) }
 {
     changes.add_all(bins)?;
     notes.forget();
-    sweep.end();
+    tour.end();
     Ok(Taken::All)
 }
 
-/// Adds rows of all entries to the changes; or, if these are more than `most`, of some, and a sweep begins that hands out the others.
+/// Adds rows of all entries to the changes; or, if these are more than `most`, of some, and a tour begins that hands out the others.
 fn take_anew<T: TimedBins>(
     bins: &T,
     notes: &mut Notes,
-    sweep: &mut Sweep,
+    tour: &mut Tour,
     most: usize,
     changes: &mut Changes,
 ) -> Result<Taken, NoMemory>
     ensures ok { IfOk result (λ taken. (rows : List Row) × ((changes.new ≡ changes.old ++ rows)
-        × TakesChanges (is_due notes.old sweep.old (T.order bins.now) (T.table bins.now)) (timed_table (T.table bins.now) (T.deadline bins.now) (T.latest bins.now))
-        taken rows (is_due notes.new sweep.new (T.order bins.now) (T.table bins.now)) (timed_table (T.table bins.now) (T.deadline bins.now) (T.latest bins.now)))) }
+        × TakesChanges (is_due notes.old tour.old (T.order bins.now) (T.table bins.now)) (timed_table (T.table bins.now) (T.deadline bins.now) (T.latest bins.now))
+        taken rows (is_due notes.new tour.new (T.order bins.now) (T.table bins.now)) (timed_table (T.table bins.now) (T.deadline bins.now) (T.latest bins.now)))) }
     ensures anew { IfOk result (λ taken. is_anew taken ≡ true) }
     ensures all { IfOk result (λ taken. length (map.entries (T.table bins.now)) ≤ most → is_all taken ≡ true) }
-    ensures err { OnErr result ((changes.new ≡ changes.old) × (notes.new ≡ notes.old) × (sweep.new ≡ sweep.old)) }
+    ensures err { OnErr result ((changes.new ≡ changes.old) × (notes.new ≡ notes.old) × (tour.new ≡ tour.old)) }
 {
     if bins.count() <= most as u64 {
-        return take_all(bins, notes, sweep, changes);
+        return take_all(bins, notes, tour, changes);
     }
     let Ok(whole) = notes.whole_filter() else {
-        return take_all(bins, notes, sweep, changes);
+        return take_all(bins, notes, tour, changes);
     };
     notes.forget();
-    sweep.end();
-    sweep.begin(whole);
-    take_swept(bins, sweep, most, changes);
+    tour.end();
+    tour.begin(whole);
+    take_ahead(bins, tour, most, changes);
     Ok(Taken::Begun)
 }
 
@@ -247,7 +247,7 @@ impl<T: TimedBins + Drop> Bins for Noted<T> {
         Ok(Noted {
             bins: T::open(alloc, stripes)?,
             notes: Notes::of_all(alloc),
-            sweep: Sweep::off(alloc),
+            tour: Tour::off(alloc),
         })
     }
 
@@ -255,7 +255,7 @@ impl<T: TimedBins + Drop> Bins for Noted<T> {
         Ok(Noted {
             bins: T::open_with(alloc, stripes, opening)?,
             notes: Notes::of_all(alloc),
-            sweep: Sweep::off(alloc),
+            tour: Tour::off(alloc),
         })
     }
 
@@ -285,8 +285,8 @@ impl<T: TimedBins + Drop> Bins for Noted<T> {
         self.bins.lend()
     }
 
-    fn lend_at(&self, places: Places) -> (LentEntries<'_>, Places) {
-        self.bins.lend_at(places)
+    fn lend_at(&self, ranks: Ranks) -> (LentEntries<'_>, Ranks) {
+        self.bins.lend_at(ranks)
     }
 
     fn count(&self) -> u64 {
@@ -302,7 +302,7 @@ impl<T: TimedBins + Drop> Bins for Noted<T> {
 impl<T: TimedBins + Occupies + Drop> Occupies for Noted<T> {
     /// The keys that changed are beside the rows.
     fn occupied(&self) -> Occupied {
-        let beside = self.notes.bytes().saturating_add(self.sweep.bytes() as u64);
+        let beside = self.notes.bytes().saturating_add(self.tour.bytes() as u64);
         self.bins.occupied().and_beside(beside)
     }
 }
@@ -333,7 +333,7 @@ impl<T: TimedBins + Drop> TimedBins for Noted<T> {
 }
 
 impl<T: TimedBins + Drop> NotedBins for Noted<T> {
-    ghost noted = { λ noted. is_due noted.notes noted.sweep (T.order noted.bins) (T.table noted.bins) };
+    ghost noted = { λ noted. is_due noted.notes noted.tour (T.order noted.bins) (T.table noted.bins) };
 
     #[inline(always)]
     fn call_noted(
@@ -361,10 +361,10 @@ impl<T: TimedBins + Drop> NotedBins for Noted<T> {
         most: usize,
         changes: &mut Changes,
     ) -> Result<Taken, NoMemory> {
-        let Noted { bins, notes, sweep } = self;
+        let Noted { bins, notes, tour } = self;
         if anew || notes.are_all() {
-            return take_anew(bins, notes, sweep, most, changes);
+            return take_anew(bins, notes, tour, most, changes);
         }
-        take_some(bins, notes, sweep, most, changes)
+        take_some(bins, notes, tour, most, changes)
     }
 }

@@ -2,7 +2,7 @@
 ghost use Rattle.std.specs.Prelude.{◌≡◌, ◌≢◌, ℕ, Some, None, IsSome, IsTrue, IfOk, OnOk, OnErr};
 ghost use Rattle.std.specs.FinMap as map;
 ghost use Rattle.atomic_methods.specs.Plans.{reply_by};
-ghost use Rattle.bins.specs.Places.{KeepsPlaces};
+ghost use Rattle.bins.specs.Ranks.{KeepsRanks};
 ghost use Rattle.timed_bins.specs.Agendas.{AreOfEntries, HasRoom, SetsDeadline, deadline_of};
 ghost use Rattle.timed_bins.specs.Deadlines.{CallsWith, asks_room, timed_table};
 ghost use Rattle.timed_bins.specs.Steps.{KeepsDeadlines};
@@ -54,7 +54,7 @@ pub(crate) fn call_on_stale<B: Bins + Drop>(
     ensures after { IfOk result (λ made. made.after ≡ deadline_of deadlines.new.times call.now.key) }
     ensures err { OnErr result ((B.table bins.new ≡ B.table bins.old) × KeepsDeadlines deadlines.old.times deadlines.new.times) }
     ensures asks { OnErr result (IsTrue (asks_room change)) }
-    ensures places { KeepsPlaces (B.table bins.old) (B.order bins.old) (B.order bins.new) }
+    ensures ranks { KeepsRanks (B.table bins.old) (B.order bins.old) (B.order bins.new) }
 {
     let key = call.key();
     let held = deadlines.get(key);

@@ -1,7 +1,7 @@
 //! Bins with the deadlines of their keys beside them: what a call does to its key's deadline, and the call itself.
 ghost use Rattle.std.specs.FinMap as map;
 ghost use Rattle.std.specs.Prelude.{◌≡◌, option_copied, ℕ, None, IsTrue, IfOk, OnErr};
-ghost use Rattle.bins.specs.Places.{KeepsPlaces};
+ghost use Rattle.bins.specs.Ranks.{KeepsRanks};
 ghost use Rattle.timed_bins.specs.Agendas.{deadline_of, AreOfEntries, SetsDeadline};
 ghost use Rattle.timed_bins.specs.Deadlines.{timed_table, CallsWith, asks_room as asks_room_is, allows, changed, change_of as change_of_is};
 ghost use Rattle.timed_bins.specs.Steps.{LooksFirst, IsReady, KeepsDeadlines, MakesRoom, MayRefuse, NeedsNone, Settles, before_in, change_at as change_at_is};
@@ -16,7 +16,7 @@ use crate::stale::call_on_stale;
 use crate::timed_bins::TimedBins;
 use crate::timing::{DeadlineChange, Expiry, SetRule, TimedReply, Timing};
 use atomic_methods::{Call, HashedCall, ReplyKind, Workspace, apply_into};
-use bins::{Bins, Counts, HashedKey, LentEntries, Occupied, Occupies, Opening, Places, Seed};
+use bins::{Bins, Counts, HashedKey, LentEntries, Occupied, Occupies, Opening, Ranks, Seed};
 use bpf_model::{NoMemory, Value};
 use std::alloc::Global;
 use std::marker::Model;
@@ -67,7 +67,7 @@ impl<B: Bins + Drop> Timed<B> {
         ensures table { self.new.table ≡ map.remove self.old.table key.now }
         ensures times { self.new.times ≡ map.remove self.old.times key.now }
         ensures latest { self.new.latest ≡ self.old.latest }
-        ensures places { KeepsPlaces self.old.table self.old.order self.new.order }
+        ensures ranks { KeepsRanks self.old.table self.old.order self.new.order }
     {
         self.bins.discard(key);
         self.deadlines.clear(key);
@@ -119,7 +119,7 @@ impl<B: Bins + Drop> Bins for Timed<B> {
         self.bins.lend()
     }
 
-    fn lend_at(&self, places: Places) -> (LentEntries<'_>, Places) {
+    fn lend_at(&self, places: Ranks) -> (LentEntries<'_>, Ranks) {
         self.bins.lend_at(places)
     }
 
@@ -355,7 +355,7 @@ pub(crate) fn call_with<B: Bins + Drop>(
     ensures after { IfOk result (λ made. made.after ≡ deadline_of deadlines.new.times call.now.key) }
     ensures err { OnErr result ((B.table bins.new ≡ B.table bins.old) × KeepsDeadlines deadlines.old.times deadlines.new.times) }
     ensures memory { OnErr result (MayRefuse (B.table bins.old) (change_at_is (option_copied timing.entry) call.now.method) call.now) }
-    ensures places { KeepsPlaces (B.table bins.old) (B.order bins.old) (B.order bins.new) }
+    ensures ranks { KeepsRanks (B.table bins.old) (B.order bins.old) (B.order bins.new) }
 {
     let room = prepare(deadlines, call, timing)?;
     match apply_into(bins, call, workspace, bytes) {

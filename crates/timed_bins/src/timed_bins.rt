@@ -3,7 +3,7 @@ ghost use Rattle.std.specs.Prelude.{◌≡◌, None, IfOk, OnErr, option_copied}
 ghost use Rattle.std.specs.FinMap as map;
 ghost use Rattle.atomic_methods.specs.Methods.{Answers, WouldAdd};
 ghost use Rattle.atomic_methods.specs.Plans.{reply_by};
-ghost use Rattle.bins.specs.Places.{KeepsPlaces};
+ghost use Rattle.bins.specs.Ranks.{KeepsRanks};
 ghost use Rattle.timed_bins.specs.Deadlines.{timed_table, change_of, CallsWith, CallsTimed, MakesCall, RefusesCall, RefusesTimed, Expires};
 
 use crate::timing::{Expiry, TimedReply, Timing};
@@ -36,7 +36,7 @@ pub trait TimedBins: Bins {
         ensures err { OnErr result (RefusesCall (option_copied timing.entry)
             (timed_table (Self.table self.old) (deadline self.old) (latest self.old)) call.now
             (timed_table (Self.table self.new) (deadline self.new) (latest self.new))) }
-        ensures places { KeepsPlaces (Self.table self.old) (Self.order self.old) (Self.order self.new) };
+        ensures ranks { KeepsRanks (Self.table self.old) (Self.order self.old) (Self.order self.new) };
 
     /// Makes one call as `apply_into` does, whatever the time is. A `Put`, `PutIfAbsent` or `Replace` that sets its value
     /// clears the key's deadline; all others keep it. Never waits.
@@ -89,5 +89,5 @@ pub trait TimedBins: Bins {
     fn expire_one(&mut self, now: u64) -> Expiry
         ensures expires { Expires (timed_table (Self.table self.old) (deadline self.old) (latest self.old)) now result
             (timed_table (Self.table self.new) (deadline self.new) (latest self.new)) }
-        ensures places { KeepsPlaces (Self.table self.old) (Self.order self.old) (Self.order self.new) };
+        ensures ranks { KeepsRanks (Self.table self.old) (Self.order self.old) (Self.order self.new) };
 }

@@ -1,10 +1,10 @@
 use Rattle.std.proofs.Common.{◌++◌, ◌∷◌, [], sym, ap, ◌∙◌, subst}
 use Rattle.std.specs.FinMap as map
 use Rattle.bins.specs.Entries.{Distinct}
-use Rattle.bins.specs.Places.{Held, table_in}
+use Rattle.bins.specs.Ranks.{Held, table_in}
 use Rattle.bins.proofs.DistinctEntries.{table_of, pushed_distinct, pushed_table}
 use Rattle.bins.proofs.PairedEntries.{entry_lacks, none_within, joined, joined_length}
-use Rattle.bins.proofs.PlaceLemmas.{pushed_places}
+use Rattle.bins.proofs.RankLemmas.{pushed_ranks}
 use Rattle.bins.proofs.FinderLemmas.{stand_once}
 use Rattle.bins.proofs.hashed_bins.HashedBins.add_admitted.Goals as goal
 
@@ -45,7 +45,7 @@ returns-clause-ok c =
     let values = c.push_reserved.ensures.values ∙ (λ i. c.reserve.ensures.values i ++ c.as_slice-2.ensures.value i ∷ []) in
     rw (← c.self.view_is) (ap table_of (joined ks vs same _ _ _ _ keys values) ∙ pushed_table _ _ _ absent)
 
-pub returns-clause-places : goal.returns-clause-places
-returns-clause-places c =
+pub returns-clause-ranks : goal.returns-clause-ranks
+returns-clause-ranks c =
     let keys = c.push_reserved.ensures.keys ∙ (λ i. c.reserve.ensures.keys i ++ (c.as_slice.ensures.value ∙ c.key.ensures.value) i ∷ []) in
-    pushed_places _ c.args.key.now _ _ c.requires.absent (keys ∙ ap (λ (held : Held). held.keys ++ c.args.key.now ∷ []) c.self.view_is)
+    pushed_ranks _ c.args.key.now _ _ c.requires.absent (keys ∙ ap (λ (held : Held). held.keys ++ c.args.key.now ∷ []) c.self.view_is)

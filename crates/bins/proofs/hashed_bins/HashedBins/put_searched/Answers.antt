@@ -2,10 +2,10 @@ use Rattle.std.proofs.Common.{◌≡◌, List, ℕ, length, sym, ap, subst, ◌�
 use Rattle.std.specs.FinMap as map
 use Rattle.bins.specs.Entries.{Distinct, entries_in}
 use Rattle.bins.specs.Finders.{Finds}
-use Rattle.bins.specs.Places.{Held, table_in}
+use Rattle.bins.specs.Ranks.{Held, table_in}
 use Rattle.bins.proofs.MapEdits.{on_err_anyway}
 use Rattle.bins.proofs.DistinctEntries.{table_of, get_none}
-use Rattle.bins.proofs.PlaceLemmas.{same_places}
+use Rattle.bins.proofs.RankLemmas.{same_ranks}
 use Rattle.bins.proofs.PairedEntries.{entry_lacks, over_distinct, over_table, over_length}
 use Rattle.bins.proofs.hashed_bins.HashedBins.put_searched.Goals as goal
 
@@ -40,5 +40,5 @@ returns-in-None-clause-memory c =
     on_err_anyway _ (sym (ap (λ (held : Held). map.get (table_in held) c.args.key.now) c.self.view_is) ∙ get_none _ _ absent)
 
 -- the keys stand as before
-pub returns-in-Some-clause-places : goal.returns-in-Some-clause-places
-returns-in-Some-clause-places c = same_places _ _ _ (c.set_value.ensures.keys ∙ ap (λ (held : Held). held.keys) c.self.view_is)
+pub returns-in-Some-clause-ranks : goal.returns-in-Some-clause-ranks
+returns-in-Some-clause-ranks c = same_ranks _ _ _ (c.set_value.ensures.keys ∙ ap (λ (held : Held). held.keys) c.self.view_is)

@@ -1,7 +1,7 @@
 use Rattle.std.proofs.Common.{sym, ap, ◌∙◌, length}
 use Rattle.std.specs.FinMap as map
 use Rattle.std.specs.FinMap.{len-entries}
-use Rattle.bins.specs.Places.{Held, table_in}
+use Rattle.bins.specs.Ranks.{Held, table_in}
 use Rattle.bins.specs.Entries.{entries_in}
 use Rattle.bins.proofs.DistinctEntries.{table_of}
 use Rattle.bins.proofs.EntryCounts.{len-table}

@@ -1,9 +1,9 @@
 use Rattle.std.proofs.Common.{◌<◌, [], length, arith, sym, ap, subst, ◌∙◌}
 use Rattle.bins.specs.Entries.{Distinct, entries_in}
 use Rattle.bins.specs.Finders.{Finds}
-use Rattle.bins.specs.Places.{Held}
+use Rattle.bins.specs.Ranks.{Held}
 use Rattle.bins.proofs.FinderLemmas.{stand_once}
-use Rattle.bins.proofs.PlaceLemmas.{removed_places, same_places}
+use Rattle.bins.proofs.RankLemmas.{removed_ranks, same_ranks}
 use Rattle.bins.proofs.MapEdits.{remove_absent}
 use Rattle.bins.proofs.DistinctEntries.{table_of, get_none, removed_distinct, removed_table}
 use Rattle.bins.proofs.PairedEntries.{paired-length, entry_found, entry_lacks, parted, parted_length}
@@ -35,7 +35,7 @@ returns-in-Some c =
     let left = parted ks vs same _ bound _ _ c.swap_remove-in-Some.ensures.keys c.swap_remove-in-Some.ensures.values in
     record {
       others = rw (← c.self.view_is) (ap table_of left ∙ removed_table _ _ ([], []) _ c.self.invariant.1 inside found);
-      places = rw (← c.self.view_is) (removed_places _ _ _ _ (stand_once _ _ same c.self.invariant.1) bound c.swap_remove-in-Some.ensures.keys);
+      ranks = rw (← c.self.view_is) (removed_ranks _ _ _ _ (stand_once _ _ same c.self.invariant.1) bound c.swap_remove-in-Some.ensures.keys);
     }
 
 -- the key had no value
@@ -43,4 +43,4 @@ pub returns-in_default : goal.returns-in_default
 returns-in_default c =
     let absent = entry_lacks _ _ c.self.invariant.2 _ c.in_default.ensures.absent in
     let none = get_none _ _ absent in
-    record { others = sym (remove_absent _ _ (rw (← c.self.view_is) none)); places = λ key there. omega arith }
+    record { others = sym (remove_absent _ _ (rw (← c.self.view_is) none)); ranks = λ key there. omega arith }

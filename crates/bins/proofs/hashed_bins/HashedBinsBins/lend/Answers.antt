@@ -1,6 +1,6 @@
 use Rattle.std.proofs.Common.{List, arith, length, ap}
 use Rattle.bins.specs.Table.{Entry}
-use Rattle.bins.specs.Places.{Held, table_in}
+use Rattle.bins.specs.Ranks.{Held, table_in}
 use Rattle.bins.proofs.CopyLemmas.{distinct_copies, distinct_many}
 use Rattle.bins.proofs.hashed_bins.HashedBinsBins.lend.Goals as goal
 

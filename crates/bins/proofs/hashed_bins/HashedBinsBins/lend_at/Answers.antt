@@ -1,7 +1,7 @@
 use Rattle.std.proofs.Common.{ap, sym, subst}
-use Rattle.bins.specs.Places.{Held, table_in}
+use Rattle.bins.specs.Ranks.{Held, table_in}
 use Rattle.bins.proofs.CopyLemmas.{distinct_copies}
-use Rattle.bins.proofs.PlaceLemmas.{lent_at}
+use Rattle.bins.proofs.RankLemmas.{lent_at}
 use Rattle.bins.proofs.hashed_bins.HashedBinsBins.lend_at.Goals as goal
 
 -- the entries of the table, and each has its position for a place

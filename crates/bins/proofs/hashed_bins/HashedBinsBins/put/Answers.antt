@@ -2,8 +2,8 @@ use Rattle.std.proofs.Common.{◌≡◌, List, ℕ, length, sym, ap, subst, ◌�
 use Rattle.std.specs.FinMap as map
 use Rattle.bins.specs.Entries.{Distinct, entries_in}
 use Rattle.bins.specs.Finders.{Finds}
-use Rattle.bins.specs.Places.{Held}
-use Rattle.bins.proofs.PlaceLemmas.{same_places}
+use Rattle.bins.specs.Ranks.{Held}
+use Rattle.bins.proofs.RankLemmas.{same_ranks}
 use Rattle.bins.proofs.DistinctEntries.{table_of}
 use Rattle.bins.proofs.PairedEntries.{over_distinct, over_table, over_length}
 use Rattle.bins.proofs.hashed_bins.HashedBinsBins.put.Goals as goal
@@ -27,5 +27,5 @@ returns-in-Some-clause-ok c =
     rw (← c.self.view_is) (keys ∙ written ∙ ap (λ (v : List ℕ). map.insert (table_of (entries_in c.self.inside.rows.keys c.self.inside.rows.values)) c.args.key.now v) c.as_slice.ensures.value)
 
 -- the keys stand as before
-pub returns-in-Some-clause-places : goal.returns-in-Some-clause-places
-returns-in-Some-clause-places c = same_places _ _ _ (c.set_value.ensures.keys ∙ ap (λ (held : Held). held.keys) c.self.view_is)
+pub returns-in-Some-clause-ranks : goal.returns-in-Some-clause-ranks
+returns-in-Some-clause-ranks c = same_ranks _ _ _ (c.set_value.ensures.keys ∙ ap (λ (held : Held). held.keys) c.self.view_is)

@@ -11,7 +11,7 @@ returns-in-Ok c =
     let bound = rw c.deref.ensures.value at c.in-Ok.ensures.bound in
     let found = rw c.deref.ensures.value at c.in-Ok.ensures.found in
     let removed = remove_found _ c.self.invariant _ _ bound found in
-    record { others = rw (← c.self.view_is) (cc (removed, c.remove.ensures.items)); places = λ key there. omega arith }
+    record { others = rw (← c.self.view_is) (cc (removed, c.remove.ensures.items)); ranks = λ key there. omega arith }
 
 -- the key had no value
 pub returns-in_default : goal.returns-in_default
@@ -19,4 +19,4 @@ returns-in_default c =
     let bound = rw c.deref.ensures.value at c.in_default.ensures.bound in
     let absent = rw c.deref.ensures.value at c.in_default.ensures.absent in
     let none = get_gap _ c.self.invariant _ _ bound absent in
-    record { others = sym (remove_absent _ _ (rw (← c.self.view_is) none)); places = λ key there. omega arith }
+    record { others = sym (remove_absent _ _ (rw (← c.self.view_is) none)); ranks = λ key there. omega arith }

@@ -42,13 +42,13 @@ pub returns-then-not-leaves_noted-clause-ends : goal.returns-then-not-leaves_not
 returns-then-not-leaves_noted-clause-ends g c =
     handed_more c.args.anew c.args.self.now.pass.view c.loop-round.self.pass c.args.stripe c.loop-round.round c.take.new.self.changes c.in_ok-taken.taken c.take.new.self.pass
     c.loop-round.invariant.handed c.in_ok-taken.ensures.handed
-    (λ none yes. c.in_ok-taken.ensures.anew (subst IsTrue (sym (c.is_first.ensures none)) yes))
+    (λ none yes. c.in_ok-taken.ensures.anew (subst IsTrue (sym (c.begins_with.ensures none)) yes))
 
 pub returns-then-not-leaves_noted-clause-wrote : goal.returns-then-not-leaves_noted-clause-wrote
 returns-then-not-leaves_noted-clause-wrote g c clean =
     wrote_more (state g.S.Store) c.args.anew c.args.self.now.pass.view c.loop-round.self.pass c.args.stripe c.loop-round.round c.take.new.self.changes c.in_ok-taken.taken c.take.new.self.pass
     c.args.save.now.conn.now c.loop-round.save.conn.now c.write_round.new.save.conn.now (c.loop-round.invariant.wrote (clean_before _ _ _ c.write_round.ensures.kept clean)) c.in_ok-taken.ensures.handed
-    (λ none yes. c.in_ok-taken.ensures.anew (subst IsTrue (sym (c.is_first.ensures none)) yes))
+    (λ none yes. c.in_ok-taken.ensures.anew (subst IsTrue (sym (c.begins_with.ensures none)) yes))
     (c.in_ok-write_round.ensures.made clean)
 
 pub returns-then-not-leaves_noted-clause-kept : goal.returns-then-not-leaves_noted-clause-kept
@@ -68,10 +68,10 @@ loop-round-preserved g c =
       elsewhere = λ j apart. keeps_then v p.view q.view j (before.elsewhere j apart) (c.take.ensures.elsewhere j apart);
       same_reference = c.write_round.ensures.same_reference ∙ before.same_reference;
       handed = handed_on c.args.anew v p c.args.stripe c.loop-round.round c.take.new.self.changes c.in_ok-taken.taken q before.handed c.in_ok-taken.ensures.handed
-          (λ none yes. c.in_ok-taken.ensures.anew (subst IsTrue (sym (c.is_first.ensures none)) yes));
+          (λ none yes. c.in_ok-taken.ensures.anew (subst IsTrue (sym (c.begins_with.ensures none)) yes));
       wrote = λ clean. wrote_on (state g.S.Store) c.args.anew v p c.args.stripe c.loop-round.round c.take.new.self.changes c.in_ok-taken.taken q
           c.args.save.now.conn.now c.loop-round.save.conn.now c.write_round.new.save.conn.now (before.wrote (clean_before _ _ _ c.write_round.ensures.kept clean)) c.in_ok-taken.ensures.handed
-          (λ none yes. c.in_ok-taken.ensures.anew (subst IsTrue (sym (c.is_first.ensures none)) yes))
+          (λ none yes. c.in_ok-taken.ensures.anew (subst IsTrue (sym (c.begins_with.ensures none)) yes))
           (c.in_ok-write_round.ensures.made clean);
       kept = kept_then _ _ _ before.kept c.write_round.ensures.kept;
     }

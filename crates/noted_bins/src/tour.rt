@@ -1,44 +1,44 @@
-//! Keys that are handed out in turn, by their places.
+//! Keys that are handed out in turn, by their ranks.
 ghost use Rattle.std.specs.Prelude.{◌≡◌, ℕ, [], List, None, true, false};
-ghost use Rattle.bins.specs.Places.{IsOneOf, place_in};
+ghost use Rattle.bins.specs.Ranks.{IsOneOf, rank_in};
 ghost use Rattle.bins.specs.Table.{Table};
-ghost use Rattle.noted_bins.specs.Sweeps.{is_swept};
+ghost use Rattle.noted_bins.specs.Tours.{is_ahead};
 
 use crate::key_filter::KeyFilter;
-use bins::Places;
+use bins::Ranks;
 use std::alloc::Global;
 use std::marker::Model;
 
-/// How many sweeps follow one another, if keys go on changing fast, before the others are handed out at once.
-const MOST_SWEEPS: u32 = 4;
+/// How many tours follow one another, if keys go on changing fast, before the others are handed out at once.
+const MOST_TOURS: u32 = 4;
 
-/// The keys with an entry that a filter may have, from the highest place down. A call on a key gives no other a higher place, so none
-/// is left out.
+/// The keys with an entry that a filter may have, from the highest rank down. No call on a key gives an entry that is there a higher
+/// rank, so none is left out.
 #[derive(Drop)]
-pub(crate) struct Sweep {
+pub(crate) struct Tour {
     filter: KeyFilter,
-    // Keys at this place and above were handed out; none: not yet any.
+    // Keys at this rank and above were handed out; none: not yet any.
     below: Option<usize>,
-    // How many sweeps began since no key was noted.
+    // How many tours began since no key was noted.
     begun: u32,
 }
 
-impl Model for Sweep {
-    ghost use Rattle.noted_bins.specs.Sweeps.{SweptKeys, swept_code};
+impl Model for Tour {
+    ghost use Rattle.noted_bins.specs.Tours.{TourKeys, tour_code};
 
-    ghost Value = { SweptKeys };
+    ghost Value = { TourKeys };
 
-    ghost coded = { swept_code };
+    ghost coded = { tour_code };
 
-    ghost view = { λ sweep. record { filter = sweep.filter; below = sweep.below } };
+    ghost view = { λ tour. record { filter = tour.filter; below = tour.below } };
 }
 
-impl Sweep {
-    /// A sweep of no keys. Takes no memory.
-    pub(crate) fn off(alloc: Global) -> Sweep
+impl Tour {
+    /// A tour of no keys. Takes no memory.
+    pub(crate) fn off(alloc: Global) -> Tour
         ensures { result.filter ≡ [] }
     {
-        Sweep {
+        Tour {
             filter: KeyFilter::off(alloc),
             below: None,
             begun: 0,
@@ -52,9 +52,9 @@ impl Sweep {
         self.filter.is_on()
     }
 
-    /// Returns whether another sweep may follow.
+    /// Returns whether another tour may follow.
     pub(crate) fn may_follow(&self) -> bool {
-        self.begun < MOST_SWEEPS
+        self.begun < MOST_TOURS
     }
 
     /// Returns the filter.
@@ -79,25 +79,25 @@ impl Sweep {
         self.begun = self.begun.saturating_add(1);
     }
 
-    /// Returns the next places, so many of them, if bins have this many entries.
-    pub(crate) fn next_places(&self, most: usize, entries: usize) -> Places
+    /// Returns the next ranks, so many of them, if bins have this many entries.
+    pub(crate) fn next_ranks(&self, most: usize, entries: usize) -> Ranks
         ensures { result.to ≡ self.now.below }
     {
         let end = self.below.unwrap_or(entries).min(entries);
-        Places {
+        Ranks {
             from: end.saturating_sub(most),
             to: self.below,
         }
     }
 
-    /// Leaves the keys at these places behind, which were handed out. If these were the last, the sweep is over.
-    pub(crate) fn pass(&mut self, places: Places)
-        requires next { places.to ≡ self.old.below }
-        ensures { (order : List (List ℕ)) (table : Table) (key : List ℕ) → is_swept self.new order table key ≡ false
-            → is_swept self.old order table key ≡ true → IsOneOf places (place_in order key) }
+    /// Leaves the keys at these ranks behind: they were handed out. If these were the last, the tour is over.
+    pub(crate) fn leave(&mut self, ranks: Ranks)
+        requires next { ranks.to ≡ self.old.below }
+        ensures { (order : List (List ℕ)) (table : Table) (key : List ℕ) → is_ahead self.new order table key ≡ false
+            → is_ahead self.old order table key ≡ true → IsOneOf ranks (rank_in order key) }
     {
-        self.below = Some(places.from);
-        if places.from == 0 {
+        self.below = Some(ranks.from);
+        if ranks.from == 0 {
             self.filter.turn_off();
         }
     }

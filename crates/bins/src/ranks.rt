@@ -1,23 +1,23 @@
-//! Places of keys, or positions of entries.
+//! Ranks of keys, or positions of entries.
 ghost use Rattle.std.specs.Prelude.{◌≡◌, ◌<◌, ◌≤◌, ℕ, true, None};
-ghost use Rattle.bins.specs.Places.{is_below};
+ghost use Rattle.bins.specs.Ranks.{is_below};
 
-/// Some places of keys, or positions of entries: from one on, up to another, which is not among them, if there is one.
+/// Some ranks of keys, or positions of entries: from one on, up to another, which is not among them, if there is one.
 #[derive(Clone, Copy, Debug, PartialEq, Eq)]
-pub struct Places {
+pub struct Ranks {
     /// The first of them.
     pub from: usize,
     /// The one after the last; none if they have no end.
     pub to: Option<usize>,
 }
 
-impl Places {
-    /// Returns all places.
-    pub fn all() -> Places
+impl Ranks {
+    /// Returns all ranks.
+    pub fn all() -> Ranks
         ensures from { result.from ≡ 0 }
         ensures to { result.to ≡ None }
     {
-        Places { from: 0, to: None }
+        Ranks { from: 0, to: None }
     }
 
     /// Returns the position at which they end among so many.
