@@ -57,8 +57,8 @@ pub trait NotedBins: TimedBins {
             (timed_table (Self.table self.new) (Self.deadline self.new) (Self.latest self.new)) };
 
     /// Adds rows of noted keys to the changes, at most `most` of them; or of all entries if `anew`, or if it isn't known which keys
-    /// changed. If these are more than `most`, rows of some are added, and the others are noted then. (If many keys go on changing
-    /// faster than they are handed out, all that are left may be added at once.) Keys whose rows were added are no longer noted. If a
+    /// changed. If these are more than `most`, rows of some are added, and the others are noted then. (If keys change faster than
+    /// they are handed out, more may be added at once, up to all that are left.) Keys whose rows were added are no longer noted. If a
     /// request for memory is refused, returns `NoMemory`, and nothing changes; or `Begun` or `Some`, with the rows for which there was
     /// room. Never waits.
     fn take_changes(

@@ -12,6 +12,9 @@ use std::marker::Model;
 /// How many tours follow one another, if keys go on changing fast, before the others are handed out at once.
 const MOST_TOURS: u32 = 4;
 
+/// A tour that follows another one takes so many times as many ranks at once: it has few keys, those that changed meanwhile.
+const LATER_RANKS: usize = 4;
+
 /// The keys with an entry that a filter may have, from the highest rank down. No call on a key gives an entry that is there a higher
 /// rank, so none is left out.
 #[derive(Drop)]
@@ -79,13 +82,18 @@ impl Tour {
         self.begun = self.begun.saturating_add(1);
     }
 
-    /// Returns the next ranks, so many of them, if bins have this many entries.
+    /// Returns the next ranks, if bins have this many entries: so many of them, or more if another tour came before this one.
     pub(crate) fn next_ranks(&self, most: usize, entries: usize) -> Ranks
         ensures { result.to ≡ self.now.below }
     {
         let end = self.below.unwrap_or(entries).min(entries);
+        let many = if self.begun > 1 {
+            most.saturating_mul(LATER_RANKS)
+        } else {
+            most
+        };
         Ranks {
-            from: end.saturating_sub(most),
+            from: end.saturating_sub(many),
             to: self.below,
         }
     }
