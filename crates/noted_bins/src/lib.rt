@@ -16,8 +16,8 @@ mod noted;
 mod noted_bins;
 mod notes;
 mod short_key;
-mod tour;
 mod taken;
+mod tour;
 
 pub use changes::Changes;
 pub use mark::SavedEntry;

@@ -14,8 +14,8 @@ ghost use Rattle.noted_bins.specs.declared.taken.Taken.TheVariants.{All as AllTa
 use crate::changes::Changes;
 use crate::noted_bins::NotedBins;
 use crate::notes::Notes;
-use crate::tour::Tour;
 use crate::taken::Taken;
+use crate::tour::Tour;
 use atomic_methods::{Call, HashedCall, Workspace};
 use bins::{Bins, Counts, HashedKey, LentEntries, Occupied, Occupies, Opening, Ranks};
 use bpf_model::{NoMemory, Value};

@@ -1,4 +1,3 @@
-use Rattle.std.proofs.Common.{◌∙◌}
 use Rattle.noted_bins.proofs.HandLemmas.{took_begun}
 use Rattle.noted_bins.proofs.noted.take_anew.Goals as goal
 

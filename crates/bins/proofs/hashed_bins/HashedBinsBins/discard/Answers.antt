@@ -1,9 +1,8 @@
 use Rattle.std.proofs.Common.{◌<◌, [], length, arith, sym, ap, subst, ◌∙◌}
 use Rattle.bins.specs.Entries.{Distinct, entries_in}
 use Rattle.bins.specs.Finders.{Finds}
-use Rattle.bins.specs.Ranks.{Held}
 use Rattle.bins.proofs.FinderLemmas.{stand_once}
-use Rattle.bins.proofs.RankLemmas.{removed_ranks, same_ranks}
+use Rattle.bins.proofs.RankLemmas.{removed_ranks}
 use Rattle.bins.proofs.MapEdits.{remove_absent}
 use Rattle.bins.proofs.DistinctEntries.{table_of, get_none, removed_distinct, removed_table}
 use Rattle.bins.proofs.PairedEntries.{paired-length, entry_found, entry_lacks, parted, parted_length}

@@ -1,4 +1,4 @@
-use Rattle.std.proofs.Common.{ap, sym, subst}
+use Rattle.std.proofs.Common.{ap}
 use Rattle.bins.specs.Ranks.{Held, table_in}
 use Rattle.bins.proofs.CopyLemmas.{distinct_copies}
 use Rattle.bins.proofs.RankLemmas.{lent_at}

@@ -1,7 +1,7 @@
-use Rattle.std.proofs.Common.{◌≡◌, ◌∙◌, refl, sym, ap, length, true, arith}
+use Rattle.std.proofs.Common.{◌≡◌, ◌∙◌, refl, sym, ap, arith}
 use Rattle.bins.specs.Entries.{entry_of}
 use Rattle.noted_bins.specs.Filters.{may_have}
-use Rattle.noted_bins.proofs.FilterLemmas.{filtered_none, first_all, first_more, first_none, first_skipped}
+use Rattle.noted_bins.proofs.FilterLemmas.{first_all, first_more, first_skipped}
 use Rattle.noted_bins.proofs.changes.Changes.add_filtered.Goals.{then-may_have+in_ok-push, else-may_have}
 use Rattle.noted_bins.proofs.changes.Changes.add_filtered.Goals as goal
 
