@@ -338,8 +338,10 @@ def backed_up(given: argparse.Namespace, folder: Path) -> None:
 
 
 FEW_KEYS = [b"few %d" % number for number in range(8000)]
-# A stripe of so many entries is taken anew in rounds, and the last batch of each may not be full: four of at least 1,000 keys, and one more.
-ROUNDS = 5
+# A save takes so many keys in one round, that is while it holds their stripe. The last batch of a round isn't full.
+ROUND_KEYS = 1000
+# Keys that changed first are noted in lists, so they may be handed out twice: 128, and one more for each 1,024 entries.
+LISTED = 135
 # Twice what the entries need, 65,536, and those of two saves.
 MOST_CHANGES = 4 * len(FEW_KEYS) + (1 << 16)
 
@@ -351,22 +353,34 @@ def sizes_of(file: Path) -> tuple[int, list[int]]:
         return sum(1 for _ in fmt.changes_of(data)), lengths
 
 
+def are_rounds(what: str, lengths: list[int]) -> None:
+    """These batches are of all the few keys, in rounds."""
+    same(f"how many batches of {what} aren't full", sum(length < fmt.BATCH_BYTES for length in lengths), len(FEW_KEYS) // ROUND_KEYS)
+    same(f"that some batches of {what} are full", any(length >= fmt.BATCH_BYTES for length in lengths), True)
+
+
 def appended(given: argparse.Namespace, folder: Path) -> None:
-    """A save appends just what changed since the last one, and all but the last batch of a round are full."""
+    """A save appends just what changed since the last one, in rounds if that is much, and all but the last batch of a round are full."""
     file = folder / "map.db"
     with kept(given.program, file, "--stripes", "1", "--keep-seconds", "3600") as server, resp.Client(server.redis) as client:
         fill(server, {key: State(b"first") for key in FEW_KEYS})
         same("SAVE", client.ask("SAVE"), resp.OK)
         first, lengths = sizes_of(file)
         same("the changes after the first save", first, len(FEW_KEYS))
-        same("how many batches aren't full", sum(length < fmt.BATCH_BYTES for length in lengths) <= ROUNDS < len(lengths), True)
+        are_rounds("the first save", lengths)
         client.ask("SET", "new", "value")
         client.ask("DEL", FEW_KEYS[0])
         same("SAVE", client.ask("SAVE"), resp.OK)
         second, longer = sizes_of(file)
         same("the changes after the second save", second - first, 2)
         same("the batches of the first save", longer[:len(lengths)], lengths)
-    print(f"appended: {first} changes in {len(lengths)} batches, and then {second - first} in {len(longer) - len(lengths)}")
+        fill(server, {key: State(b"again") for key in FEW_KEYS})
+        same("SAVE", client.ask("SAVE"), resp.OK)
+        third, longest = sizes_of(file)
+        same(f"that all keys changed once more, {third - second}", len(FEW_KEYS) <= third - second <= len(FEW_KEYS) + LISTED, True)
+        are_rounds("the third save", longest[len(longer):])
+    print(f"appended: {first} changes in {len(lengths)} batches, then {second - first} in {len(longer) - len(lengths)}, "
+          f"and {third - second} in {len(longest) - len(longer)}")
 
 
 def bounded(given: argparse.Namespace, folder: Path) -> None:
