@@ -353,9 +353,9 @@ def sizes_of(file: Path) -> tuple[int, list[int]]:
         return sum(1 for _ in fmt.changes_of(data)), lengths
 
 
-def are_rounds(what: str, lengths: list[int]) -> None:
-    """These batches are of all the few keys, in rounds."""
-    same(f"how many batches of {what} aren't full", sum(length < fmt.BATCH_BYTES for length in lengths), len(FEW_KEYS) // ROUND_KEYS)
+def are_rounds(what: str, lengths: list[int], entries: int) -> None:
+    """These batches are of a stripe of so many entries, taken in rounds."""
+    same(f"how many batches of {what} aren't full", sum(length < fmt.BATCH_BYTES for length in lengths), -(-entries // ROUND_KEYS))
     same(f"that some batches of {what} are full", any(length >= fmt.BATCH_BYTES for length in lengths), True)
 
 
@@ -367,7 +367,7 @@ def appended(given: argparse.Namespace, folder: Path) -> None:
         same("SAVE", client.ask("SAVE"), resp.OK)
         first, lengths = sizes_of(file)
         same("the changes after the first save", first, len(FEW_KEYS))
-        are_rounds("the first save", lengths)
+        are_rounds("the first save", lengths, len(FEW_KEYS))
         client.ask("SET", "new", "value")
         client.ask("DEL", FEW_KEYS[0])
         same("SAVE", client.ask("SAVE"), resp.OK)
@@ -378,7 +378,7 @@ def appended(given: argparse.Namespace, folder: Path) -> None:
         same("SAVE", client.ask("SAVE"), resp.OK)
         third, longest = sizes_of(file)
         same(f"that all keys changed once more, {third - second}", len(FEW_KEYS) <= third - second <= len(FEW_KEYS) + LISTED, True)
-        are_rounds("the third save", longest[len(longer):])
+        are_rounds("the third save", longest[len(longer):], len(FEW_KEYS) + 1)
     print(f"appended: {first} changes in {len(lengths)} batches, then {second - first} in {len(longer) - len(lengths)}, "
           f"and {third - second} in {len(longest) - len(longer)}")
 
