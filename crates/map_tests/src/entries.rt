@@ -2,7 +2,7 @@
 ghost use Rattle.std.specs.Prelude.{◌≤◌, ◌<◌};
 
 use crate::expectations::expect;
-use bins::{Bins, EntryList, HashedBins, HashedKey, ListBins, Ranks, Seed, SortedEntries, hash_of};
+use bins::{Bins, EntryList, HashedBins, HashedKey, ListBins, Seed, SortedEntries, hash_of};
 use bpf_model::{Key, NoMemory, Value};
 use lengths::fit_each_length;
 use replaced::are_replaced;
@@ -205,29 +205,9 @@ fn stand_apart<B: Bins + Drop>(alloc: Global, crowd: Crowd) -> Result<bool, Fail
     Ok(apart && bins.count() == 333)
 }
 
-/// Lends the entries of ten keys in two parts, by rank. Tells whether as many were in them.
-fn lent_in_parts<B: Bins + Drop>(alloc: Global) -> Result<bool, Fail> {
-    let mut bins = opened::<B>(alloc)?;
-    fill(&mut bins, 10)?;
-    let mut seen: usize = 0;
-    for ranks in [
-        Ranks {
-            from: 0,
-            to: Some(4),
-        },
-        Ranks { from: 4, to: None },
-    ] {
-        let (entries, positions) = bins.lend_at(ranks);
-        let end = positions.end_among(entries.len());
-        seen = seen.saturating_add(end.saturating_sub(positions.from));
-    }
-    Ok(seen >= 10)
-}
-
 /// Tries everything that bins of either kind must do.
 fn try_each<B: Bins + Drop>(alloc: Global) -> Result<(), Fail> {
     expect(come_and_go::<B>(alloc)?, "three hundred keys")?;
-    expect(lent_in_parts::<B>(alloc)?, "entries by rank")?;
     expect(copied_twice::<B>(alloc)?, "copies in a list")?;
     expect(stand_apart::<B>(alloc, Crowd::OneHash)?, "keys of one hash")?;
     expect(stand_apart::<B>(alloc, Crowd::OneBin)?, "keys of one bin")?;
