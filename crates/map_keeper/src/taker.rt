@@ -29,7 +29,7 @@ use std::time::Duration;
 const ROUND_KEYS: usize = 1000;
 
 /// After this many rounds in which more keys were noted, one round takes all entries anew.
-const ROUNDS: u32 = 1 << 16;
+const ROUNDS: u32 = 1 << 14;
 
 /// With so many bytes a batch is written.
 const BATCH_BYTES: usize = 1 << 14;
