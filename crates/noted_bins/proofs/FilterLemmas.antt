@@ -1,5 +1,5 @@
 -- Rows of the entries whose keys a filter may have.
-use Rattle.std.proofs.Common.{◌≡◌, ℕ, ◌+◌, ◌<◌, ◌≤◌, Bool, true, false, cond, List, [], ◌∷◌, ◌++◌, append-nil, append_assoc, length, Option, Some, None, refl, sym, ap, subst, ◌∙◌, ◌⊎◌, inl, inr, arith}
+use Rattle.std.proofs.Common.{◌≡◌, ℕ, ◌+◌, ◌<◌, ◌≤◌, Bool, true, false, cond, List, [], ◌∷◌, ◌++◌, append-nil, append_assoc, length, length-append, Option, Some, None, refl, sym, ap, subst, ◌∙◌, ◌⊎◌, inl, inr, arith}
 use Rattle.std.specs.Prelude.{is_some as is_there}
 use Rattle.std.specs.FinMap as map
 use Rattle.std.specs.FinMap.{get-entries}
@@ -130,3 +130,11 @@ passed table order before after ranks old new hands left = record { handed = han
 
 pub stayed : (table : TimedTable) (order : List (List ℕ)) (tour : TourKeys) (old new : List Row) → HandsOutPresent table old new → HandsOutAhead table order tour tour old new
 stayed table order tour old new hands = record { handed = hands; known = λ key e was. absurd (let both = sym e ∙ was in cc) }
+
+-- if there are as many rows as before, none was added
+pub none_added : (table : TimedTable) (old new : List Row) → HandsOutPresent table old new → length new ≡ length old → new ≡ old
+none_added table old new hands same = by_rows hands.rows hands.added
+  where
+    by_rows : (rows : List Row) → new ≡ old ++ rows → new ≡ old
+    by_rows [] added = added ∙ append-nil old
+    by_rows (row ∷ rows) added = absurd (let many = ap length added in let parts = length-append old (row ∷ rows) in omega (arith, same, many, parts))

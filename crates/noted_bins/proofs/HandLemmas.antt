@@ -1,5 +1,5 @@
 -- Rows of some noted keys, one after another.
-use Rattle.std.proofs.Common.{◌≡◌, ℕ, Bool, true, false, cond, List, [], ◌∷◌, ◌++◌, append_assoc, Option, Some, None, Result, Ok, Err, OnOk, refl, sym, ap, ◌∙◌, ◌⊎◌, inl, inr}
+use Rattle.std.proofs.Common.{◌≡◌, ℕ, Bool, true, false, cond, List, [], ◌∷◌, ◌++◌, append_assoc, length, length-append, ◌+◌, Option, Some, None, Result, Ok, Err, OnOk, refl, sym, ap, ◌∙◌, ◌⊎◌, inl, inr}
 use Rattle.std.specs.Prelude.{OnErr, is_err, is_some as is_there}
 use Rattle.std.specs.FinMap as finite
 use Rattle.std.proofs.lemmas.List.Elements.{All-nil, All-cons, All-append}
@@ -99,6 +99,10 @@ handed_more first changes more old between new table key before end added all fi
         hands_more old table before.0 between new end.0 key before.1.1 end.1 all filter (left end.0 key end.1),
       ),
     )
+
+-- .. so there is one more
+pub longer_by_one : (old new : List Row) (row : Row) → new ≡ old ++ row ∷ [] → length new ≡ length old + 1
+longer_by_one old new row added = ap length added ∙ length-append old (row ∷ [])
 
 -- none is noted
 none_noted : (new : NotedKeys) (table : TimedTable) → new.all ≡ false → new.keys ≡ [] → new.filter ≡ [] → (key : List ℕ) → is_noted new table.table key ≡ false

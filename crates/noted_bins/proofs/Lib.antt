@@ -1,5 +1,6 @@
 mod TableLemmas
 mod MarkLemmas
+mod PackedLemmas
 mod KeyLemmas
 mod CallLemmas
 mod AllLemmas

@@ -7,7 +7,8 @@ ghost use Rattle.noted_bins.specs.Taking.{HandsOutAll, HandsOutAt, HandsOutPrese
 
 use crate::key_filter::KeyFilter;
 use crate::mark::{Mark, SavedEntry};
-use bins::{EntryList, HashedKey, Ranks};
+use crate::packed_entries::PackedEntries;
+use bins::{HashedKey, Ranks};
 use bpf_model::limits::{KEY_BYTES, VALUE_BYTES};
 use bpf_model::{Key, NoMemory};
 use std::alloc::Global;
@@ -18,8 +19,7 @@ use timed_bins::TimedBins;
 /// earlier one.
 #[derive(Drop)]
 pub struct Changes {
-    alloc: Global,
-    entries: EntryList,
+    entries: PackedEntries,
     marks: Vec<Mark>,
 }
 
@@ -43,8 +43,7 @@ impl Changes {
         ensures { result ≡ [] }
     {
         Changes {
-            alloc,
-            entries: EntryList::new(alloc),
+            entries: PackedEntries::new(alloc),
             marks: Vec::new(alloc),
         }
     }
@@ -74,11 +73,11 @@ impl Changes {
         (key, self.marks[position].entry(value))
     }
 
-    /// Drops all rows.
+    /// Drops all rows. Keeps the memory for as many as a save mostly takes at once.
     pub fn clear(&mut self)
         ensures { self.new ≡ [] }
     {
-        self.entries = EntryList::new(self.alloc);
+        self.entries.clear();
         self.marks.clear();
     }
 
@@ -139,7 +138,7 @@ impl Changes {
     {
         let from = self.entries.len();
         self.marks.try_reserve(bins.count() as usize)?;
-        bins.copy_into(&mut self.entries)?;
+        self.entries.add_all(&bins.lend())?;
         add_marks(bins, &self.entries, from, &mut self.marks);
         Ok(())
     }
@@ -158,13 +157,13 @@ fn find_row<'a, T: TimedBins>(bins: &'a T, key: &HashedKey<'_>) -> (&'a [u8], Ma
 }
 
 /// Adds the marks of all entries from this position on. There is room for them.
-fn add_marks<T: TimedBins>(bins: &T, entries: &EntryList, from: usize, marks: &mut Vec<Mark>)
+fn add_marks<T: TimedBins>(bins: &T, entries: &PackedEntries, from: usize, marks: &mut Vec<Mark>)
     requires from { from ≤ length entries.now }
     requires room { vec_len marks.old + (length entries.now - from) ≤ vec_capacity marks.old }
     ensures { marks.new.items ≡ marks.old.items ++ marks_of (T.deadline bins.now) (drop from entries.now) }
 {
     for position in from..entries.len() {
-        let key = Key::from_slice(entries.key(position)).unwrap();
+        let key = Key::from_slice(entries.get(position).0).unwrap();
         marks.push_reserved(Mark::of(bins.deadline_of(&HashedKey::new(&key))));
     }
 }

@@ -15,6 +15,7 @@ mod mark;
 mod noted;
 mod noted_bins;
 mod notes;
+mod packed_entries;
 mod short_key;
 mod taken;
 mod tour;

@@ -107,6 +107,7 @@ fn take_listed<T: TimedBins>(
     ensures ok { IfOk result (λ _. (rows : List Row) × ((changes.new ≡ changes.old ++ rows)
         × HandsOut notes.old (timed_table (T.table bins.now) (T.deadline bins.now) (T.latest bins.now)) rows notes.new)) }
     ensures none { IfOk result (λ emptied. IsTrue emptied → notes.new.keys ≡ []) }
+    ensures still { IfOk result (λ _. changes.new ≡ changes.old → notes.new ≡ notes.old) }
     ensures err { OnErr result ((changes.new ≡ changes.old) × (notes.new ≡ notes.old)) }
 {
     for handed in 0..most {
@@ -122,16 +123,28 @@ fn take_listed<T: TimedBins>(
 }
 
 /// Adds rows of the keys at the tour's next ranks to the changes. If a request for memory is refused, some of the rows are added, and
-/// the tour stays as it is.
-fn take_ahead<T: TimedBins>(bins: &T, tour: &mut Tour, most: usize, changes: &mut Changes)
-    ensures { HandsOutAhead (timed_table (T.table bins.now) (T.deadline bins.now) (T.latest bins.now)) (T.order bins.now)
+/// the tour stays as it is. `NoMemory` if it is refused for the first row; then nothing changes.
+fn take_ahead<T: TimedBins>(
+    bins: &T,
+    tour: &mut Tour,
+    most: usize,
+    changes: &mut Changes,
+) -> Result<(), NoMemory>
+    ensures handed { HandsOutAhead (timed_table (T.table bins.now) (T.deadline bins.now) (T.latest bins.now)) (T.order bins.now)
         tour.old tour.new changes.old changes.new }
+    ensures err { OnErr result ((changes.new ≡ changes.old) × (tour.new ≡ tour.old)) }
 {
+    let before = changes.len();
     let ranks = tour.next_ranks(most, bins.count() as usize);
     if changes.add_filtered(bins, tour.filter(), ranks).is_err() {
-        return;
+        return if changes.len() == before {
+            Err(NoMemory)
+        } else {
+            Ok(())
+        };
     }
     tour.leave(ranks);
+    Ok(())
 }
 
 /// Adds rows of all entries that the filter may have to the changes, and turns it off. If a request for memory is refused, some of the rows
@@ -142,6 +155,7 @@ fn take_filtered<T: TimedBins>(bins: &T, notes: &mut Notes, changes: &mut Change
     ensures handed { HandsOutFiltered (timed_table (T.table bins.now) (T.deadline bins.now) (T.latest bins.now))
         notes.old.filter notes.new.filter changes.old changes.new }
     ensures off { IsTrue result → notes.new.filter ≡ [] }
+    ensures still { result ≡ false → notes.new ≡ notes.old }
 {
     if changes
         .add_filtered(bins, notes.filter(), Ranks::all())
@@ -169,9 +183,10 @@ fn take_some<T: TimedBins>(
     ensures err { OnErr result ((changes.new ≡ changes.old) × (notes.new ≡ notes.old) × (tour.new ≡ tour.old)) }
 {
     if tour.is_on() {
-        take_ahead(bins, tour, most, changes);
+        take_ahead(bins, tour, most, changes)?;
         return Ok(Taken::Some);
     }
+    let before = changes.len();
     if !take_listed(bins, notes, most, changes)? {
         return Ok(Taken::Some);
     }
@@ -181,12 +196,16 @@ fn take_some<T: TimedBins>(
     }
     if tour.may_follow() {
         tour.begin(notes.take_filter());
-        take_ahead(bins, tour, most, changes);
+        // If memory is refused, the tour has begun nonetheless: the next call tells.
+        let _ = take_ahead(bins, tour, most, changes);
         return Ok(Taken::Some);
     }
     if take_filtered(bins, notes, changes) {
         tour.end();
         return Ok(Taken::Rest);
+    }
+    if changes.len() == before {
+        return Err(NoMemory);
     }
     Ok(Taken::Some)
 }
@@ -234,7 +253,8 @@ fn take_anew<T: TimedBins>(
     notes.forget();
     tour.end();
     tour.begin(whole);
-    take_ahead(bins, tour, most, changes);
+    // If memory is refused, the tour has begun nonetheless: the next call tells.
+    let _ = take_ahead(bins, tour, most, changes);
     Ok(Taken::Begun)
 }
 

@@ -4,7 +4,7 @@ use Rattle.noted_bins.proofs.noted.take_some.Goals as goal
 
 -- a tour goes on
 pub returns-then-is_on-clause-ok : goal.returns-then-is_on-clause-ok
-returns-then-is_on-clause-ok g c = took_ahead c.args.notes.now c.args.tour.now c.take_ahead.new.tour (g.T.Bins.order c.args.bins.now) _ _ _ c.take_ahead.ensures
+returns-then-is_on-clause-ok g c = took_ahead c.args.notes.now c.args.tour.now c.take_ahead.new.tour (g.T.Bins.order c.args.bins.now) _ _ _ c.take_ahead.ensures.handed
 
 -- keys are left in the lists
 pub returns-then-not-branch-clause-ok : goal.returns-then-not-branch-clause-ok
@@ -21,7 +21,7 @@ pub returns-then-may_follow-clause-ok : goal.returns-then-may_follow-clause-ok
 returns-then-may_follow-clause-ok g c =
     took_first c.args.notes.now c.take_listed.new.notes c.take_filter.new.self c.args.tour.now c.begin.new.self c.take_ahead-then-may_follow.new.tour (g.T.Bins.order c.args.bins.now)
     _ _ _ _ c.in_ok-take_listed.ensures.ok c.take_filter.ensures.keys (c.is_on.ensures c.if-is_on.false)
-    (c.begin.ensures.filter ∙ c.take_filter.ensures.taken) c.begin.ensures.below c.take_ahead-then-may_follow.ensures
+    (c.begin.ensures.filter ∙ c.take_filter.ensures.taken) c.begin.ensures.below c.take_ahead-then-may_follow.ensures.handed
 
 -- none is left in the filter
 pub returns-then-take_filtered-clause-ok : goal.returns-then-take_filtered-clause-ok
