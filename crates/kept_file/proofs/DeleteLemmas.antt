@@ -91,6 +91,15 @@ and_true false = refl
 passing_is : (stripe : ℕ) (row : Row) → IsTypedRow row → passing (of_stripe ∷ []) (number stripe ∷ []) row ≡ is_of stripe (batch_in row)
 passing_is stripe row typed = and_true (equal Binary (column row 2) (number stripe)) ∙ equal_is (column row 2) (pos stripe) (stripe_typed row typed)
 
+-- the rows that are left are those that do not pass, if that is tested so
+left_are : (passes test : Row → Bool) (rows left : List Row) → IsTable rows → IsTable left → ((row : Row) → Has rows row → passes row ≡ test row)
+    → ((row : Row) → Has left row → Has rows row × (passes row ≡ false)) → ((row : Row) → Has rows row → passes row ≡ false → Has left row) → left ≡ filter (λ row. not (test row)) rows
+left_are passes test rows left ordered left_ordered same fails stays =
+    let stay = λ (row : Row). not (test row) in
+    same_rows left (filter stay rows) left_ordered (ordered_filter stay rows ordered)
+    (λ row h. let was = fails row h in has_kept stay rows row was.0 (ap not (sym (same row was.0) ∙ was.1)))
+    (λ row h. let kept = has_filtered stay rows row h in stays row kept.0 (same row kept.0 ∙ not-true _ kept.1))
+
 -- ---- one batch goes
 
 -- a stored batch passes if it has the number
@@ -108,12 +117,9 @@ removed_one n old new has made =
     let runs = runs_as schema.REMOVE.now params old new kept_schema has.tables _ remove_is remove_plain made.0 made.1.0 in
     let drop = drops old new (of_number ∷ []) (statement_of schema.REMOVE.now (understood kept_schema schema.REMOVE.now)) params made.0 has runs in
     let rows = old.now.trees batches_tree in
-    let stays = λ (row : Row). not (has_rowid n row) in
-    let test = λ (row : Row) (there : Has rows row). numbered_is n row (all_has _ rows row has.numbered there) in
     record {
-      rows = same_rows (new.now.trees batches_tree) (filter stays rows) drop.tables.ordered (ordered_filter stays rows has.ordered)
-          (λ row h. let was = drop.left_fails row h in has_kept stays rows row was.0 (ap not (sym (test row was.0) ∙ was.1)))
-          (λ row h. let kept = has_filtered stays rows row h in drop.fails_left row kept.0 (test row kept.0 ∙ not-true _ kept.1));
+      rows = left_are (passing (of_number ∷ []) params) (has_rowid n) rows (new.now.trees batches_tree) has.ordered drop.tables.ordered
+          (λ row there. numbered_is n row (all_has _ rows row has.numbered there)) drop.left_fails drop.fails_left;
       tables = drop.tables;
     }
 
@@ -171,14 +177,11 @@ module _ {S : Type 0} (shown : Held S → State) where
       let lost = removed_all it.numbers it.mid new have (kept_tables file (shown it.mid) has same) it.removed in
       let is : (shown new).now.trees batches_tree ≡ without_all rows (ids_of it.numbers) =
       lost.rows ∙ ap (λ (d : Database). without_all (d.trees batches_tree) (ids_of it.numbers)) same.0.now_is in
-      let stays = λ (row : Row). not (is_of stripe (batch_in row)) in
-      let test = λ (row : Row) (there : Has rows row). passing_is stripe row (typed_rows file has row there) in
-      let left : (shown new).now.trees batches_tree ≡ filter stays rows =
-      same_rows ((shown new).now.trees batches_tree) (filter stays rows) lost.tables.ordered (ordered_filter stays rows has.ordered)
-      (λ row h. let was = left_fails passes rows it.numbers has.ordered has.numbered are row (subst (λ l. Has l row) is h) in
-      has_kept stays rows row was.0 (ap not (sym (test row was.0) ∙ was.1)))
-      (λ row h. let kept = has_filtered stays rows row h in
-      subst (λ l. Has l row) (sym is) (fails_left passes rows it.numbers has.ordered has.numbered are row kept.0 (test row kept.0 ∙ not-true _ kept.1))) in
+      let left : (shown new).now.trees batches_tree ≡ filter (λ (row : Row). not (is_of stripe (batch_in row))) rows =
+      left_are passes (λ row. is_of stripe (batch_in row)) rows ((shown new).now.trees batches_tree) has.ordered lost.tables.ordered
+      (λ row there. passing_is stripe row (typed_rows file has row there))
+      (λ row h. left_fails passes rows it.numbers has.ordered has.numbered are row (subst (λ l. Has l row) is h))
+      (λ row h fails. subst (λ l. Has l row) (sym is) (fails_left passes rows it.numbers has.ordered has.numbered are row h fails)) in
       record { tables = lost.tables; are = ap (map batch_in) left ∙ batches_left (λ batch. not (is_of stripe batch)) rows }
 
 -- what follows if a call returned `Ok`
