@@ -7,7 +7,8 @@
   - ended: after the last session, or SHUTDOWN, nothing is missing, with another number of stripes too.
   - appended: a save appends just what changed since the one before.
   - bounded: many changes of few keys, and the file doesn't get longer and longer.
-  - upgraded: a file of format 1 is refused, and the client in Python makes one of it that is taken.
+  - anew: a save that takes all anew reads the file a few times at most, and not once for each stripe.
+  - upgraded: a file of format 1 or 2 is refused, and the client in Python makes one of it that is taken.
   - foreign: files whose batches Python made. Sound ones are taken, and each fault in a batch is refused by its own line.
   - damaged: files of another kind, cut ones, ones with changed bits. Each is refused, or every entry is one that was there.
   - hindered: a file that can't be written, a full disk, a file that is removed, a second server.
@@ -402,18 +403,45 @@ def bounded(given: argparse.Namespace, folder: Path) -> None:
     print(f"bounded: of {given.turns * len(FEW_KEYS)} changes the file had {max(counts)} at most, in {max(pages)} pages")
 
 
-def old_files(folder: Path, stripes: int, known: Known) -> tuple[Path, Path]:
-    """A file of format 1 that Python makes, with a program and a script, and a copy of it that has most in the log beside it."""
+# How often a save that takes all anew may read what the file has. Each row goes by its number, and the log is copied into the file.
+MOST_READS = 6
+
+
+def bytes_read(process: int) -> int:
+    """How many bytes a process has read so far."""
+    lines = Path(f"/proc/{process}/io").read_text(encoding="ascii").splitlines()
+    return int(dict(line.split(": ") for line in lines)["rchar"])
+
+
+def anew(given: argparse.Namespace, folder: Path) -> None:
+    """The first save after a start takes all stripes anew: it reads the file a few times, however many stripes there are."""
+    file, options = folder / "map.db", ("--stripes", "64", "--keep-seconds", "3600")
+    entries = {b"key %d" % number: State(b"%d" % number * 100) for number in range(10_000)}
+    with kept(given.program, file, *options) as server, resp.Client(server.redis) as client:
+        fill(server, entries)
+        same("SAVE", client.ask("SAVE"), resp.OK)
+    size = file.stat().st_size + log_of(file).stat().st_size
+    with kept(given.program, file, *options) as server, resp.Client(server.redis) as client:
+        before = bytes_read(server.process.pid)
+        same("SAVE", client.ask("SAVE"), resp.OK)
+        read = bytes_read(server.process.pid) - before
+        same(f"that of {size} bytes a save of all reads {read}, at most {MOST_READS} times as many", read <= MOST_READS * size, True)
+    same("the entries by SQL", entries_by_sql(file), entries)
+    print(f"anew: a save of 64 stripes reads {read / size:.1f} times what the file has")
+
+
+def old_files(folder: Path, number: int, stripes: int, known: Known) -> tuple[Path, Path]:
+    """A file of the format 1 or 2 that Python makes, with a program and a script, and a copy of it that has most in the log beside it."""
     folder.mkdir()
     file, add, code = folder / "old.db", model.PROGRAMS[model.ADD], load.constant_program(7)
     with contextlib.closing(sqlite3.connect(file)) as other:
         other.execute("pragma journal_mode = wal")
         # with this connection open, the next one leaves the log as it is
         other.execute("select * from sqlite_schema").fetchall()
-        with fmt.made(file, 1, stripes) as data:
+        with fmt.made(file, number, stripes) as data:
             data.executemany("insert into programs values (?, ?, ?, ?, ?, ?)", [(0, *add.sizes, add.code), (1, *load.CONSTANT_SIZES, code)])
             data.execute("insert into scripts (text) values (?)", (resp.SUM_SCRIPT,))
-            fmt.add_old(data, [Change(key, state.value, state.earliest) for key, state in SAVED.items()], stripes)
+            fmt.add_old(data, number, [Change(key, state.value, state.earliest) for key, state in SAVED.items()], stripes)
         copy = copied(file, folder / "with a log")
     same("the log has rows", log_of(copy).stat().st_size > copy.stat().st_size, True)
     for named in (add.code, 0), (code, 1), (resp.SUM_SCRIPT, sha1(resp.SUM_SCRIPT).hexdigest().encode()):
@@ -422,16 +450,16 @@ def old_files(folder: Path, stripes: int, known: Known) -> tuple[Path, Path]:
 
 
 def upgrade(old: Path, new: Path) -> int:
-    """Runs the tool that makes a file of format 2 of one of format 1; its status."""
+    """Runs the tool that makes a file of format 3 of an older one; its status."""
     words = [sys.executable, "-B", "-m", "bpfmap.upgrade", str(old), str(new)]
     return subprocess.run(words, cwd=ROOT / "clients/python", stdin=subprocess.DEVNULL, stderr=subprocess.DEVNULL, check=False).returncode
 
 
 def upgraded(given: argparse.Namespace, folder: Path) -> None:
-    """A file of format 1 is refused, and the one that the client in Python makes of it is taken, with all that it had."""
-    for stripes in (1, 16):
-        known, new = Known(), folder / f"new {stripes}.db"
-        old, with_log = old_files(folder / f"old {stripes}", stripes, known)
+    """A file of format 1 or 2 is refused, and the one that the client in Python makes of it is taken, with all that it had."""
+    for number, stripes in itertools.product((1, 2), (1, 16)):
+        known, new = Known(), folder / f"new {number}, {stripes}.db"
+        old, with_log = old_files(folder / f"old {number}, {stripes}", number, stripes, known)
         before = with_log.read_bytes(), log_of(with_log).read_bytes()
         same("the status of the upgrade", upgrade(with_log, new), 0)
         same("the old file and its log", (with_log.read_bytes(), log_of(with_log).read_bytes()), before)
@@ -441,8 +469,8 @@ def upgraded(given: argparse.Namespace, folder: Path) -> None:
         same("what --kept says of the new file", report_of(given, new), None)
         for count in ("16", "4", "4"):
             check_all(given, new, SAVED, known, "--stripes", count)
-        same("what --kept says of the old file", report_of(given, old), "of an older format (1)")
-        same("what a server says of it", refusal_of(given, old), "of an older format (1)")
+        same("what --kept says of the old file", report_of(given, old), f"of an older format ({number})")
+        same("what a server says of it", refusal_of(given, old), f"of an older format ({number})")
 
 
 def line_on(file: Path, lines: list[str]) -> str:
@@ -515,7 +543,7 @@ def foreign(given: argparse.Namespace, folder: Path) -> None:
     for name, placed, line in ("own", stripe, None), ("other", 1 - stripe, DAMAGED):
         file = fmt.make(folder / f"in its {name} stripe.db", [Batch(1, placed, fmt.spelled(SOUND[0]))], 2)
         same(f"what is said of a key in its {name} stripe", refusal_of(given, file, "--stripes", "2"), line)
-    for number, line in (0, "not a file of this server's"), (1, "of an older format (1)"), (3, "of a newer format (3)"):
+    for number, line in (0, "not a file of this server's"), (1, "of an older format (1)"), (2, "of an older format (2)"), (4, "of a newer format (4)"):
         file = folder / f"format {number}.db"
         with fmt.made(file, number):
             pass
@@ -616,7 +644,8 @@ def other_files(given: argparse.Namespace, file: Path, folder: Path, seen: dict[
 # What sqlite3 adds to a file that has our tables, and what it changes in their texts.
 ADDED = ["create index more on batches (stripe)", "create view more as select changes from batches", "create table more (x)",
          "create trigger more after delete on batches begin delete from settings; end"]
-CHANGED = [(") STRICT", ") strict"), ("stripe INTEGER NOT NULL", "stripe INTEGER NOT NULL CHECK (stripe >= 0)")]
+CHANGED = [(") STRICT", ") strict"), ("stripe INTEGER NOT NULL", "stripe INTEGER NOT NULL CHECK (stripe >= 0)"), ("CREATE INDEX", "CREATE UNIQUE INDEX"),
+           ("ON batches (stripe)", "ON batches (changes)"), ("ON batches (stripe)", "ON batches (stripe) WHERE stripe > 0"), ("by_stripe", "by_number")]
 
 
 def like_ours(file: Path, folder: Path, given: argparse.Namespace) -> None:
@@ -624,8 +653,8 @@ def like_ours(file: Path, folder: Path, given: argparse.Namespace) -> None:
     own = folder / "made by sqlite3"
     with contextlib.closing(sqlite3.connect(copied(file, own))) as data:
         texts = [text for text, in data.execute("select sql from sqlite_schema where sql is not null order by rowid")]
-    same("the tables of a new file", texts, list(fmt.TABLES[fmt.FORMAT]))
-    lists = [texts, texts[::-1], texts[1:], *(texts + [more] for more in ADDED)]
+    same("the tables of a new file", texts, list(fmt.TEXTS[fmt.FORMAT]))
+    lists = [texts, [*texts[-2::-1], texts[-1]], texts[1:], texts[:-1], *(texts + [more] for more in ADDED)]
     lists += [[text.replace(*change) for text in texts] for change in CHANGED]
     for number, made in enumerate(lists):
         name = own / f"{number}.db"
@@ -785,7 +814,7 @@ def asked(given: argparse.Namespace, folder: Path) -> None:
     check_all(given, file, {b"a": State(b"1"), b"b": State(b"2")}, Known())
 
 
-PARTS = {part.__name__: part for part in (killed, ended, appended, bounded, upgraded, foreign, damaged, hindered, asked)}
+PARTS = {part.__name__: part for part in (killed, ended, appended, bounded, anew, upgraded, foreign, damaged, hindered, asked)}
 
 
 def main() -> int:

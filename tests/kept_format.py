@@ -1,5 +1,5 @@
 """The file in which `mapd --keep` keeps a map, by crates/kept_file/README.md: changes as bytes and back, the entries that a file has, and
-files that sqlite3 makes, of formats 1 and 2."""
+files that sqlite3 makes, of formats 1, 2 and 3."""
 from __future__ import annotations
 
 import contextlib
@@ -12,7 +12,7 @@ from typing import NamedTuple, Optional
 
 from wire import Wrong
 
-FORMAT = 2
+FORMAT = 3
 MOST_KEY, MOST_VALUE = 64, 1024
 # With this many bytes a batch is written.
 BATCH_BYTES = 1 << 14
@@ -24,8 +24,9 @@ SCRIPTS = "CREATE TABLE scripts (number INTEGER PRIMARY KEY, text BLOB NOT NULL)
 BATCHES = "CREATE TABLE batches (number INTEGER PRIMARY KEY, stripe INTEGER NOT NULL, changes BLOB NOT NULL) STRICT"
 ENTRIES = ("CREATE TABLE entries (stripe INTEGER NOT NULL, key BLOB NOT NULL, value BLOB NOT NULL, deadline INTEGER, "
            "PRIMARY KEY (stripe, key)) STRICT")
-# The texts that make a file's tables, by its format.
-TABLES = {1: (SETTINGS, PROGRAMS, SCRIPTS, ENTRIES), 2: (SETTINGS, PROGRAMS, SCRIPTS, BATCHES)}
+BY_STRIPE = "CREATE INDEX batches_by_stripe ON batches (stripe)"
+# The texts that make a file's tables and their index, by its format.
+TEXTS = {1: (SETTINGS, PROGRAMS, SCRIPTS, ENTRIES), 2: (SETTINGS, PROGRAMS, SCRIPTS, BATCHES), 3: (SETTINGS, PROGRAMS, SCRIPTS, BATCHES, BY_STRIPE)}
 
 REMOVED, LASTING, UNTIL = range(3)
 
@@ -139,7 +140,7 @@ def batches_of(changes: Iterable[Change], stripes: int, most: int = BATCH_BYTES)
 def made(file: Path, number: int = FORMAT, stripes: int = 1) -> Iterator[sqlite3.Connection]:
     """A new file that sqlite3 makes, with the tables and the settings of a file of the format of this number. It has no checksums."""
     with contextlib.closing(sqlite3.connect(file)) as data, data:
-        for text in TABLES.get(number, TABLES[FORMAT]):
+        for text in TEXTS.get(number, TEXTS[FORMAT]):
             data.execute(text)
         data.executemany("INSERT INTO settings (name, value) VALUES (?, ?)", [("format", number), ("stripes", stripes)])
         yield data
@@ -148,11 +149,19 @@ def made(file: Path, number: int = FORMAT, stripes: int = 1) -> Iterator[sqlite3
 def make(file: Path, batches: Iterable[Batch], stripes: int = 1) -> Path:
     """Makes a file with these batches."""
     with made(file, FORMAT, stripes) as data:
-        data.executemany("INSERT INTO batches (number, stripe, changes) VALUES (?, ?, ?)", batches)
+        add(data, batches)
     return file
 
 
-def add_old(data: sqlite3.Connection, changes: Iterable[Change], stripes: int) -> None:
-    """Enters these entries into a file of format 1."""
+def add(data: sqlite3.Connection, batches: Iterable[Batch]) -> None:
+    """Enters these batches into a file."""
+    data.executemany("INSERT INTO batches (number, stripe, changes) VALUES (?, ?, ?)", batches)
+
+
+def add_old(data: sqlite3.Connection, number: int, changes: list[Change], stripes: int) -> None:
+    """Enters these entries into a file of format 1 or 2."""
+    if number == 2:
+        add(data, batches_of(changes, stripes))
+        return
     data.executemany("INSERT INTO entries (stripe, key, value, deadline) VALUES (?, ?, ?, ?)",
                      [(stripe_of(key, stripes), key, value, deadline) for key, value, deadline in changes])

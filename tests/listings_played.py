@@ -301,7 +301,7 @@ PLAYED: list[tuple[str, str, Play]] = [
     ("crates/bpfmap/README.md", r"$ printf 'mov64 r0, -1\nexit\n' | bpfmap asm", transcript),
     ("crates/counters/README.md", "$ rt run", is_run_by_gate),
     ("crates/explanations/README.md", "```indented", stands_in("tests/commands.txt")),
-    ("crates/kept_report/README.md", "format 2", report),
+    ("crates/kept_report/README.md", "format 3", report),
     ("crates/mapd/README.md", "$ mapd --listen 127.0.0.1:0 --sessions 0", transcript),
     ("crates/redis_scripts/README.md", "#!bpf merge integer 64 8 8 8", script),
     ("crates/verifier/README.md", "```indented", refused_text),

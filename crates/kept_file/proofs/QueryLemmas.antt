@@ -17,6 +17,7 @@ use Rattle.kept_file.specs.declared.batches.TheConstants.{BATCHES}
 use Rattle.kept_file.specs.declared.rows.TheConstants.{PROGRAMS, SCRIPTS}
 use Rattle.kept_file.specs.declared.query.TheConstants.{SETTING}
 use Rattle.kept_file.specs.declared.file.TheConstants.{COUNT_OBJECTS}
+use Rattle.kept_file.specs.declared.schema.TheConstants.{NUMBERS}
 use Rattle.kept_file.specs.declared.tables.TheConstants.{OBJECTS}
 
 abbrev Name : Type 0
@@ -126,3 +127,7 @@ objects_query = refl
 pub count_query : is_plain (first COUNT_OBJECTS.now) ≡ true
 unfolding everything
 count_query = refl
+
+pub numbers_query : is_plain (first NUMBERS.now) ≡ true
+unfolding everything
+numbers_query = refl

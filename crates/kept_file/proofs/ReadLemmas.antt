@@ -28,8 +28,9 @@ use Rattle.kept_file.specs.declared.batches.TheConstants.{BATCHES}
 use Rattle.kept_file.specs.declared.rows.TheConstants.{PROGRAMS, SCRIPTS}
 use Rattle.kept_file.specs.declared.query.TheConstants.{SETTING}
 use Rattle.kept_file.specs.declared.file.TheConstants.{COUNT_OBJECTS}
+use Rattle.kept_file.specs.declared.schema.TheConstants.{NUMBERS}
 use Rattle.kept_file.specs.declared.tables.TheConstants.{OBJECTS}
-use Rattle.kept_file.proofs.QueryLemmas.{query_plain, batches_query, programs_query, scripts_query, setting_query, objects_query, count_query}
+use Rattle.kept_file.proofs.QueryLemmas.{query_plain, batches_query, programs_query, scripts_query, setting_query, objects_query, count_query, numbers_query}
 
 pub batches_read : OnlyReads BATCHES.now
 batches_read schema c is = query_plain schema BATCHES.now c batches_query is
@@ -81,6 +82,16 @@ reads_survive text params old new reads =
 
 pub kept_then : (a b c : State) → Survives a b (λ _. ⊥) → Survives b c (λ _. ⊥) → Survives a c (λ _. ⊥)
 kept_then a b c one two = survives_then a b c _ _ (λ _. ⊥) (λ _ db none. none) (λ _ db none. none) one two
+
+pub survives_same : (s : State) → Survives s s (λ _. ⊥)
+survives_same s = record {
+  clean = omega arith;
+  shield = λ h. h;
+  counts = omega arith;
+  limit = refl;
+  closes = λ clean up. inl up;
+  crash = λ clean db may. inl may;
+}
 
 -- clean now, so clean before
 pub clean_before : (old new : State) (P : Trees → Type 0) → Survives old new P → HasCleanDisk new → HasCleanDisk old
@@ -171,6 +182,9 @@ objects_read schema c is = query_plain schema OBJECTS.now c objects_query is
 
 pub count_read : OnlyReads COUNT_OBJECTS.now
 count_read schema c is = query_plain schema COUNT_OBJECTS.now c count_query is
+
+pub numbers_read : OnlyReads NUMBERS.now
+numbers_read schema c is = query_plain schema NUMBERS.now c numbers_query is
 
 -- ---- the numbers rise
 

@@ -23,6 +23,8 @@ use Rattle.sqlite_trees.specs.View.{IsOrdered, IsShaped, is_int}
 use Rattle.sqlite.specs.Order.{Row, column}
 use Rattle.sqlite.specs.Schema.{Schema}
 use Rattle.sqlite.specs.Compile.{table_defined_by}
+use Rattle.sqlite_resolve.specs.Compile.{defined_is_read}
+use Rattle.sqlite_value.specs.declared.value.Value.{Value}
 use Rattle.sqlite_value.specs.declared.value.Value.TheVariants.{Int, Null, Text}
 use Rattle.sqlite_value.specs.Order.{value_cmp}
 use Rattle.sqlite_trees.specs.Objects.{catalog_tree}
@@ -31,20 +33,20 @@ use Rattle.sqlite_schema.specs.Names.{same_name}
 use Rattle.sqlite_schema.specs.declared.schema.Index.{Index}
 use Rattle.sqlite_schema.specs.declared.schema.Table.{Table}
 use Rattle.sqlite_schema.specs.declared.schema.View.{View as Stored}
-use Rattle.sqlite_catalog.specs.Listing.{AreListed, IsTableRow, IsIndexRow, IsViewRow, IsAside, IsReadable, IsOwned, IsDefined, is_binder_of, automatic, is_table_row, is_view_row, is_index_row, is_formed}
+use Rattle.sqlite_catalog.specs.Listing.{AreListed, IsTableRow, IsIndexRow, IsViewRow, IsAside, IsReadable, IsOwned, IsDefined, is_binder_of, automatic, is_table_row, is_view_row, is_index_row, is_formed, is_unread}
 use Rattle.sqlite_catalog.proofs.LayoutLemmas.{zipped_left, zipped_right, table_shape}
 use Rattle.sqlite_rules.specs.Lists.{Has}
 use Rattle.sqlite_rules.proofs.ListLemmas.{all_has, all_from, has_filtered, has_kept}
 use Rattle.sqlite_rules.proofs.ProbeLemmas.{has_mapped, mapped_has}
 use Rattle.kept_file.specs.Content.{HasTables, IsJustOpened, ListsKept}
-use Rattle.kept_file.specs.Tables.{batches_tree, table_row, key_name, key_row, kept_objects, kept_schema, settings_table, programs_table, scripts_table, batches_table}
+use Rattle.kept_file.specs.Tables.{batches_tree, table_row, index_row, kept_objects, kept_schema, settings_table, settings_key, programs_table, scripts_table, batches_table, batches_by_stripe}
 use Rattle.kept_file.specs.declared.fault.KeepFault.{KeepFault}
 use Rattle.kept_file.specs.declared.schema.TheConstants as schema
 use Rattle.kept_file.proofs.ListedLemmas.{ShowsObjects, front, shows_objects}
 use Rattle.kept_file.proofs.ReadLemmas.{objects_read, shown_of}
 use Rattle.kept_file.proofs.StoredLemmas.{same_rows}
 use Rattle.kept_file.specs.declared.tables.TheConstants.{OBJECTS}
-use Rattle.kept_file.proofs.TextLemmas.{settings_made, programs_made, scripts_made, batches_made}
+use Rattle.kept_file.proofs.TextLemmas.{settings_made, programs_made, scripts_made, batches_made, by_stripe_made}
 
 -- ---- the list has these rows in this order
 
@@ -54,7 +56,8 @@ fronts_rise (o ∷ more) up = (all_from _ (map front more) (λ row h. let r = ha
 
 kept_rise : IsTable kept_objects
 unfolding value_cmp lib.Ieee.is_nan lib.Ieee.lt
-kept_rise = ((refl, (refl, (refl, (refl, tt)))), ((refl, (refl, (refl, tt))), ((refl, (refl, tt)), ((refl, tt), (tt, tt)))))
+kept_rise =
+    ((refl, (refl, (refl, (refl, (refl, tt))))), ((refl, (refl, (refl, (refl, tt)))), ((refl, (refl, (refl, tt))), ((refl, (refl, tt)), ((refl, tt), (tt, tt))))))
 
 pub fronts_are : (objects : List Row) → IsTable objects → ShowsObjects objects kept_objects → map front objects ≡ kept_objects
 fronts_are objects rising all = same_rows (map front objects) kept_objects (fronts_rise objects rising) kept_rise
@@ -86,9 +89,20 @@ key_of index table key one is = go is.0 is.1 is.2 is.3
 abbrev pub tables : List Table
 tables = kept_schema.tables
 
--- the one whose key has an index
-abbrev pub keyed : List Table
-keyed = settings_table ∷ []
+-- an index of a new file, its table, and the text that makes it, if any
+pub record KeptIndex : Type 0 where
+  pub index : Index
+  pub table : Table
+  pub made_by : Value
+
+abbrev pub by_key : KeptIndex
+by_key = record { index = settings_key; table = settings_table; made_by = Null }
+
+abbrev pub by_stripe : KeptIndex
+by_stripe = record { index = batches_by_stripe; table = batches_table; made_by = Text schema.BATCHES_BY_STRIPE.now }
+
+abbrev pub kept_indexes : List KeptIndex
+kept_indexes = by_key ∷ by_stripe ∷ []
 
 pub record ShowsTable (o : Row) (t : Table) : Type 0 where
   pub id : column o 0 ≡ Int (pos (t.tree + 1))
@@ -99,12 +113,12 @@ pub record ShowsTable (o : Row) (t : Table) : Type 0 where
   pub made_by : column o 4 ≡ Text text
   pub made : table_defined_by text ≡ Ok (at_tree t 0)
 
-pub record ShowsKey (o : Row) (t : Table) : Type 0 where
-  pub id : column o 0 ≡ Int (pos (t.tree + 2))
+pub record ShowsIndex (o : Row) (k : KeptIndex) : Type 0 where
+  pub id : column o 0 ≡ Int (pos (k.index.tree + 1))
   pub kind : column o 1 ≡ Text (codes "index")
-  pub name : column o 2 ≡ Text (key_name t.name)
-  pub owner : column o 3 ≡ Text t.name
-  pub unmade : column o 4 ≡ Null
+  pub name : column o 2 ≡ Text k.index.name
+  pub owner : column o 3 ≡ Text k.table.name
+  pub made_by : column o 4 ≡ k.made_by
 
 shows_table : (o : Row) (t : Table) (text : List ℕ) → table_defined_by text ≡ Ok (at_tree t 0) → front o ≡ table_row (t.tree + 1) t.name text → ShowsTable o t
 shows_table o t text made e = record {
@@ -117,25 +131,26 @@ shows_table o t text made e = record {
   made = made;
 }
 
-shows_key : (o : Row) (t : Table) → front o ≡ key_row (t.tree + 2) t.name → ShowsKey o t
-shows_key o t e = record {
+shows_index : (o : Row) (k : KeptIndex) → front o ≡ index_row (k.index.tree + 1) k.index k.table.name k.made_by → ShowsIndex o k
+shows_index o k e = record {
   id = ap (λ (r : Row). column r 0) e;
   kind = ap (λ (r : Row). column r 1) e;
   name = ap (λ (r : Row). column r 2) e;
   owner = ap (λ (r : Row). column r 3) e;
-  unmade = ap (λ (r : Row). column r 4) e;
+  made_by = ap (λ (r : Row). column r 4) e;
 }
 
 abbrev pub IsKept : Row → Type 0
-IsKept o = ((t : Table) × Has tables t × ShowsTable o t) ⊎ ((t : Table) × Has keyed t × ShowsKey o t)
+IsKept o = ((t : Table) × Has tables t × ShowsTable o t) ⊎ ((k : KeptIndex) × Has kept_indexes k × ShowsIndex o k)
 
 kept : (o : Row) → Has kept_objects (front o) → IsKept o
 kept o (inl e) = inl (settings_table, inl refl, shows_table o settings_table _ settings_made e)
-kept o (inr (inl e)) = inr (settings_table, inl refl, shows_key o settings_table e)
+kept o (inr (inl e)) = inr (by_key, inl refl, shows_index o by_key e)
 kept o (inr (inr (inl e))) = inl (programs_table, inr (inl refl), shows_table o programs_table _ programs_made e)
 kept o (inr (inr (inr (inl e)))) = inl (scripts_table, inr (inr (inl refl)), shows_table o scripts_table _ scripts_made e)
 kept o (inr (inr (inr (inr (inl e))))) = inl (batches_table, inr (inr (inr (inl refl))), shows_table o batches_table _ batches_made e)
-kept o (inr (inr (inr (inr (inr none))))) = absurd none
+kept o (inr (inr (inr (inr (inr (inl e)))))) = inr (by_stripe, inr (inl refl), shows_index o by_stripe e)
+kept o (inr (inr (inr (inr (inr (inr none)))))) = absurd none
 
 -- ---- no object is one that the database keeps aside
 
@@ -172,11 +187,21 @@ differ a b other e = let same = (bytes_eq-Decides a b).1 e in cc
 index_word : codes "index" ≡ codes "table" → ⊥
 index_word = differ (codes "index") (codes "table") refl
 
--- no key has the name of a table
-no_key : (t : Table) (table : List ℕ) → Has keyed t → same_name (key_name table) t.name ≡ true → ⊥
+-- no index has the name of a table that has one
+no_index : (k other : KeptIndex) → Has kept_indexes k → Has kept_indexes other → same_name other.index.name k.table.name ≡ true → ⊥
 unfolding same_name
-no_key t table (inl e) same = let s = rw e at same in cc
-no_key t table (inr none) same = none
+no_index k other (inl e) (inl f) same = let s = rw (e, f) at same in cc
+no_index k other (inl e) (inr (inl f)) same = let s = rw (e, f) at same in cc
+no_index k other (inr (inl e)) (inl f) same = let s = rw (e, f) at same in cc
+no_index k other (inr (inl e)) (inr (inl f)) same = let s = rw (e, f) at same in cc
+no_index k other (inr (inr none)) f same = none
+no_index k other e (inr (inr none)) same = none
+
+-- the text that makes an index is understood
+understood_index : (k : KeptIndex) → Has kept_indexes k → is_unread k.made_by ≡ false
+understood_index k (inl e) = rw e refl
+understood_index k (inr (inl e)) = rw (e, defined_is_read batches_table schema.BATCHES_BY_STRIPE.now _ by_stripe_made) refl
+understood_index k (inr (inr none)) = absurd none
 
 -- the kind of a row is one word
 other_kind : (o : Row) (a b : List ℕ) → column o 1 ≡ Text a → column o 1 ≡ Text b → a ≡ b
@@ -186,11 +211,12 @@ module _ (objects : List Row) (schema : Schema) (are : AreListed objects schema)
   aside_row : (w : Stored) → Has schema.views w → (o : Row) × Has objects o × IsViewRow o w
   aside_row w h = let r = zipped_left IsViewRow _ schema.views w are.views h in (r.0, (has_filtered is_view_row objects r.0 r.1).0, r.2)
 
-  unbinding_key : (o : Row) (w : Stored) (t : Table) (kind owner : List ℕ) (code : ℕ) (foreign : Option (List ℕ)) → ShowsKey o t → kind ≡ codes "index" → IsAside o w kind owner code foreign → w.binds ≡ false
-  unbinding_key o w t kind owner code None shows is aside = absurd (differ (codes "index") (codes "view") refl (sym is ∙ aside.0))
-  unbinding_key o w t kind owner code (Some table) shows is aside = elim aside.2 [
+  unbinding_index : (o : Row) (w : Stored) (k : KeptIndex) (kind owner : List ℕ) (code : ℕ) (foreign : Option (List ℕ)) → Has kept_indexes k → ShowsIndex o k → kind ≡ codes "index"
+      → IsAside o w kind owner code foreign → w.binds ≡ false
+  unbinding_index o w k kind owner code None there shows is aside = absurd (differ (codes "index") (codes "view") refl (sym is ∙ aside.0))
+  unbinding_index o w k kind owner code (Some table) there shows is aside = elim aside.2 [
     | inl a ↦ absurd (index_word (sym is ∙ a.0))
-    | inr (inl b) ↦ rw shows.unmade at b.2
+    | inr (inl b) ↦ b.2 ∙ (ap is_unread shows.made_by ∙ understood_index k there)
     | inr (inr c) ↦ absurd (differ (codes "index") (codes "trigger") refl (sym is ∙ c.0))
   ]
 
@@ -207,7 +233,7 @@ module _ (objects : List Row) (schema : Schema) (are : AreListed objects schema)
       let r = aside_row w h in
       elim (all r.0 r.1) [
         | inl t ↦ unbinding_table r.0 w r.2.kind r.2.owner r.2.code w.foreign (other_kind r.0 _ _ r.2.described.kind_is t.2.kind) r.2.aside
-        | inr k ↦ unbinding_key r.0 w k.0 r.2.kind r.2.owner r.2.code w.foreign k.2 (other_kind r.0 _ _ r.2.described.kind_is k.2.kind) r.2.aside
+        | inr k ↦ unbinding_index r.0 w k.0 r.2.kind r.2.owner r.2.code w.foreign k.1 k.2 (other_kind r.0 _ _ r.2.described.kind_is k.2.kind) r.2.aside
       ]
 
   unowned : (w : Stored) (foreign : Option (List ℕ)) → IfSome foreign (λ owner.
@@ -233,23 +259,23 @@ module _ (objects : List Row) (schema : Schema) (are : AreListed objects schema)
       by false free unread = unread (readable o t there shows)
 
   -- the table of an object that is kept aside is kept aside too
-  key_aside : (o : Row) (w : Stored) (t : Table) (kind owner : List ℕ) (code : ℕ) (foreign : Option (List ℕ)) → ShowsKey o t → kind ≡ codes "index" → column o 3 ≡ Text owner
-      → w.foreign ≡ foreign → IsAside o w kind owner code foreign → (foreign ≡ Some owner) × (owner ≡ t.name)
-  key_aside o w t kind owner code None shows is owned none aside = absurd (differ (codes "index") (codes "view") refl (sym is ∙ aside.0))
-  key_aside o w t kind owner code (Some table) shows is owned some aside = (ap Some (sym aside.0), let e = sym owned ∙ shows.owner in cc)
+  index_aside : (o : Row) (w : Stored) (k : KeptIndex) (kind owner : List ℕ) (code : ℕ) (foreign : Option (List ℕ)) → ShowsIndex o k → kind ≡ codes "index" → column o 3 ≡ Text owner
+      → w.foreign ≡ foreign → IsAside o w kind owner code foreign → (foreign ≡ Some owner) × (owner ≡ k.table.name)
+  index_aside o w k kind owner code None shows is owned none aside = absurd (differ (codes "index") (codes "view") refl (sym is ∙ aside.0))
+  index_aside o w k kind owner code (Some table) shows is owned some aside = (ap Some (sym aside.0), let e = sym owned ∙ shows.owner in cc)
 
   table_view : (w : Stored) → (o : Row) × (t : Table) × Has tables t × ShowsTable o t × IsViewRow o w → Has schema.views w → ⊥
   table_view w r h = table_aside r.0 w r.1 r.4.kind r.4.owner r.4.code w.foreign r.2 r.3 h (other_kind r.0 _ _ r.4.described.kind_is r.3.kind) refl r.4.aside
 
-  -- the table of a key, by its name, is no key
-  table_only : (w : Stored) (owner : List ℕ) → (t : Table) × Has keyed t × (owner ≡ t.name) → Has schema.views w → same_name w.name owner ≡ true → ⊥
+  -- the table of an index, by its name, is no index
+  table_only : (w : Stored) (owner : List ℕ) → (k : KeptIndex) × Has kept_indexes k × (owner ≡ k.table.name) → Has schema.views w → same_name w.name owner ≡ true → ⊥
   table_only w owner of h same =
       let r = aside_row w h in
       elim (all r.0 r.1) [
         | inl t ↦ table_view w (r.0, t.0, t.1, t.2, r.2) h
         | inr k ↦
-            let name : w.name ≡ key_name k.0.name = let e = sym r.2.described.name_is ∙ k.2.name in cc in
-            no_key of.0 k.0.name of.1 (subst (λ n. same_name (key_name k.0.name) n ≡ true) of.2 (subst (λ n. same_name n owner ≡ true) name same))
+            let name : w.name ≡ k.0.index.name = let e = sym r.2.described.name_is ∙ k.2.name in cc in
+            no_index of.0 k.0 of.1 k.1 (subst (λ n. same_name k.0.index.name n ≡ true) of.2 (subst (λ n. same_name n owner ≡ true) name same))
       ]
 
   no_view : (w : Stored) → Has schema.views w → ⊥
@@ -258,7 +284,7 @@ module _ (objects : List Row) (schema : Schema) (are : AreListed objects schema)
       elim (all r.0 r.1) [
         | inl t ↦ table_view w (r.0, t.0, t.1, t.2, r.2) h
         | inr k ↦
-            let of = key_aside r.0 w k.0 r.2.kind r.2.owner r.2.code w.foreign k.2 (other_kind r.0 _ _ r.2.described.kind_is k.2.kind) r.2.described.owner_is refl r.2.aside in
+            let of = index_aside r.0 w k.0 r.2.kind r.2.owner r.2.code w.foreign k.2 (other_kind r.0 _ _ r.2.described.kind_is k.2.kind) r.2.described.owner_is refl r.2.aside in
             let owned : IfSome (Some r.2.owner) (λ owner. AllByRecursion (λ t. same_name t.name owner ≡ false) schema.tables
             × ((it : Stored) × Has schema.views it × IsSome it.foreign × (same_name it.name owner ≡ true)) × (w.is_bound ≡ true → (it : Stored) × Has schema.views it × (is_binder_of w.name it ≡ true)))
             = rw of.0 at (all_has (IsOwned schema) schema.views w are.owned h) in
@@ -273,23 +299,45 @@ module _ (objects : List Row) (schema : Schema) (are : AreListed objects schema)
   ]
 
 -- a table by its name
-named : (a b : Table) → Has tables a → Has keyed b → a.name ≡ b.name → a ≡ b
-named a b (inl e) (inl f) same = e ∙ sym f
-named a b (inr (inl e)) (inl f) same = absurd (differ (codes "programs") (codes "settings") refl (rw (e, f) at same))
-named a b (inr (inr (inl e))) (inl f) same = absurd (differ (codes "scripts") (codes "settings") refl (rw (e, f) at same))
-named a b (inr (inr (inr (inl e)))) (inl f) same = absurd (differ (codes "batches") (codes "settings") refl (rw (e, f) at same))
-named a b (inr (inr (inr (inr none)))) f same = absurd none
-named a b e (inr none) same = absurd none
+named : (t : Table) (k : KeptIndex) → Has tables t → Has kept_indexes k → t.name ≡ k.table.name → t ≡ k.table
+named t k (inl e) (inl f) same = e ∙ ap (λ (i : KeptIndex). i.table) (sym f)
+named t k (inr (inl e)) (inl f) same = absurd (differ (codes "programs") (codes "settings") refl (rw (e, f) at same))
+named t k (inr (inr (inl e))) (inl f) same = absurd (differ (codes "scripts") (codes "settings") refl (rw (e, f) at same))
+named t k (inr (inr (inr (inl e)))) (inl f) same = absurd (differ (codes "batches") (codes "settings") refl (rw (e, f) at same))
+named t k (inl e) (inr (inl f)) same = absurd (differ (codes "settings") (codes "batches") refl (rw (e, f) at same))
+named t k (inr (inl e)) (inr (inl f)) same = absurd (differ (codes "programs") (codes "batches") refl (rw (e, f) at same))
+named t k (inr (inr (inl e))) (inr (inl f)) same = absurd (differ (codes "scripts") (codes "batches") refl (rw (e, f) at same))
+named t k (inr (inr (inr (inl e)))) (inr (inl f)) same = e ∙ ap (λ (i : KeptIndex). i.table) (sym f)
+named t k (inr (inr (inr (inr none)))) f same = absurd none
+named t k e (inr (inr none)) same = absurd none
 
--- an index by its row and its table
-pub indexed_so : (o : Row) (index : Index) (all : List Table) (t : Table) (key : List ℕ) → all ≡ tables → Has keyed t → t.uniques ≡ key ∷ [] → IsIndexRow all o index → ShowsKey o t
-    → index ≡ automatic t 0 key (t.tree + 1)
-indexed_so o index all t key is there one row shows =
-    let name : row.table.name ≡ t.name = let e = sym row.described.owner_is ∙ shows.owner in cc in
-    let table : row.table ≡ t = named row.table t (subst (λ l. Has l row.table) is row.listed) there name in
-    let defined : IsDefined t index Null = subst₂ (λ u v. IsDefined u index v) table shows.unmade row.defined in
-    let tree : index.tree ≡ t.tree + 1 = let e : Int (pos (index.tree + 1)) ≡ Int (pos (t.tree + 2)) = sym row.described.id ∙ shows.id in let n : index.tree + 1 ≡ t.tree + 2 = cc in omega (arith, n) in
-    key_of index t key one defined ∙ ap (automatic t 0 key) tree
+-- an index by what makes it
+abbrev in_tree : Index → ℕ → Index
+in_tree index tree = record index { tree = tree }
+
+key_so : (index : Index) → IsDefined settings_table index Null → index ≡ in_tree settings_key index.tree
+unfolding digits
+key_so index is = key_of index settings_table (1 ∷ []) refl is
+
+by_stripe_so : (index : Index) → IsDefined batches_table index (Text schema.BATCHES_BY_STRIPE.now) → index ≡ in_tree batches_by_stripe index.tree
+by_stripe_so index is =
+    let made : is.0 ≡ in_tree batches_by_stripe 0 = let e = sym is.1 ∙ by_stripe_made in cc in
+    is.2 ∙ ap (λ (m : Index). record m { tree = index.tree; table = batches_tree }) made
+
+index_so : (k : KeptIndex) (index : Index) → Has kept_indexes k → IsDefined k.table index k.made_by → index ≡ in_tree k.index index.tree
+index_so k index (inl e) is = subst (λ (i : KeptIndex). index ≡ in_tree i.index index.tree) (sym e) (key_so index (subst (λ (i : KeptIndex). IsDefined i.table index i.made_by) e is))
+index_so k index (inr (inl e)) is =
+    subst (λ (i : KeptIndex). index ≡ in_tree i.index index.tree) (sym e) (by_stripe_so index (subst (λ (i : KeptIndex). IsDefined i.table index i.made_by) e is))
+index_so k index (inr (inr none)) is = absurd none
+
+-- .. by its row and its table
+pub indexed_so : (o : Row) (index : Index) (all : List Table) (k : KeptIndex) → all ≡ tables → Has kept_indexes k → IsIndexRow all o index → ShowsIndex o k → index ≡ k.index
+indexed_so o index all k is there row shows =
+    let name : row.table.name ≡ k.table.name = let e = sym row.described.owner_is ∙ shows.owner in cc in
+    let table : row.table ≡ k.table = named row.table k (subst (λ l. Has l row.table) is row.listed) there name in
+    let defined : IsDefined k.table index k.made_by = subst₂ (λ u v. IsDefined u index v) table shows.made_by row.defined in
+    let tree : index.tree ≡ k.index.tree = let e : Int (pos (index.tree + 1)) ≡ Int (pos (k.index.tree + 1)) = sym row.described.id ∙ shows.id in let n : index.tree + 1 ≡ k.index.tree + 1 = cc in omega (arith, n) in
+    index_so k index there defined ∙ ap (in_tree k.index) tree
 
 -- ---- the schema that is listed so
 
@@ -297,12 +345,12 @@ table_row_is : (o : Row) (t : Table) → ShowsTable o t → is_view_row o ≡ fa
 unfolding value_cmp lib.Ieee.is_nan lib.Ieee.lt
 table_row_is o t shows plain = and_from (is_eq (value_cmp (column o 1) (Text (codes "table")))) _ (rw shows.kind refl) (ap not (or_parts (is_eq (value_cmp (column o 1) (Text (codes "view")))) _ plain).1)
 
-no_table_row : (o : Row) (t : Table) → ShowsKey o t → is_table_row o ≡ false
+no_table_row : (o : Row) (k : KeptIndex) → ShowsIndex o k → is_table_row o ≡ false
 unfolding value_cmp lib.Ieee.is_nan lib.Ieee.lt
-no_table_row o t shows = and_left (is_eq (value_cmp (column o 1) (Text (codes "table")))) _ (rw shows.kind refl)
+no_table_row o k shows = and_left (is_eq (value_cmp (column o 1) (Text (codes "table")))) _ (rw shows.kind refl)
 
-index_row_is : (o : Row) (t : Table) → ShowsKey o t → is_view_row o ≡ false → is_index_row o ≡ true
-index_row_is o t shows plain = rw (no_table_row o t shows, plain) refl
+index_row_is : (o : Row) (k : KeptIndex) → ShowsIndex o k → is_view_row o ≡ false → is_index_row o ≡ true
+index_row_is o k shows plain = rw (no_table_row o k shows, plain) refl
 
 no_index_row : (o : Row) (t : Table) → ShowsTable o t → is_view_row o ≡ false → is_index_row o ≡ false
 no_index_row o t shows plain = rw (table_row_is o t shows plain) refl
@@ -324,44 +372,48 @@ nobody (x ∷ xs) none = absurd (none x (inl refl))
 more : {X : Type 0} (xs : List X) (x y : X) (rest others : List X) → xs ≡ x ∷ rest → x ≡ y → rest ≡ others → xs ≡ y ∷ others
 more xs x y rest others is first later = is ∙ ap₂ ◌∷◌ first later
 
-pub record Are (o0 o1 o2 o3 o4 : Row) : Type 0 where
+pub record Are (o0 o1 o2 o3 o4 o5 : Row) : Type 0 where
   pub settings : ShowsTable o0 settings_table
-  pub settings_key : ShowsKey o1 settings_table
+  pub settings_key : ShowsIndex o1 by_key
   pub programs : ShowsTable o2 programs_table
   pub scripts : ShowsTable o3 scripts_table
   pub batches : ShowsTable o4 batches_table
+  pub batches_by_stripe : ShowsIndex o5 by_stripe
 
-module _ (o0 o1 o2 o3 o4 : Row) (shows : Are o0 o1 o2 o3 o4) (schema : Schema) (are : AreListed (o0 ∷ o1 ∷ o2 ∷ o3 ∷ o4 ∷ []) schema) where
-  abbrev five : List Row
-  five = o0 ∷ o1 ∷ o2 ∷ o3 ∷ o4 ∷ []
+module _ (o0 o1 o2 o3 o4 o5 : Row) (shows : Are o0 o1 o2 o3 o4 o5) (schema : Schema) (are : AreListed (o0 ∷ o1 ∷ o2 ∷ o3 ∷ o4 ∷ o5 ∷ []) schema) where
+  abbrev six : List Row
+  six = o0 ∷ o1 ∷ o2 ∷ o3 ∷ o4 ∷ o5 ∷ []
 
-  each : (o : Row) → Has five o → IsKept o
+  each : (o : Row) → Has six o → IsKept o
   each o (inl e) = rw e (inl (settings_table, inl refl, shows.settings))
-  each o (inr (inl e)) = rw e (inr (settings_table, inl refl, shows.settings_key))
+  each o (inr (inl e)) = rw e (inr (by_key, inl refl, shows.settings_key))
   each o (inr (inr (inl e))) = rw e (inl (programs_table, inr (inl refl), shows.programs))
   each o (inr (inr (inr (inl e)))) = rw e (inl (scripts_table, inr (inr (inl refl)), shows.scripts))
   each o (inr (inr (inr (inr (inl e))))) = rw e (inl (batches_table, inr (inr (inr (inl refl))), shows.batches))
-  each o (inr (inr (inr (inr (inr none))))) = absurd none
+  each o (inr (inr (inr (inr (inr (inl e)))))) = rw e (inr (by_stripe, inr (inl refl), shows.batches_by_stripe))
+  each o (inr (inr (inr (inr (inr (inr none)))))) = absurd none
 
-  plain : (o : Row) → Has five o → is_view_row o ≡ false
-  plain = plain_row five schema are each
+  plain : (o : Row) → Has six o → is_view_row o ≡ false
+  plain = plain_row six schema are each
 
-  table_rows : filter is_table_row five ≡ o0 ∷ o2 ∷ o3 ∷ o4 ∷ []
+  table_rows : filter is_table_row six ≡ o0 ∷ o2 ∷ o3 ∷ o4 ∷ []
   table_rows = rw (
     table_row_is o0 _ shows.settings (plain o0 (inl refl)),
     no_table_row o1 _ shows.settings_key,
     table_row_is o2 _ shows.programs (plain o2 (inr (inr (inl refl)))),
     table_row_is o3 _ shows.scripts (plain o3 (inr (inr (inr (inl refl))))),
     table_row_is o4 _ shows.batches (plain o4 (inr (inr (inr (inr (inl refl)))))),
+    no_table_row o5 _ shows.batches_by_stripe,
   ) refl
 
-  index_rows : filter is_index_row five ≡ o1 ∷ []
+  index_rows : filter is_index_row six ≡ o1 ∷ o5 ∷ []
   index_rows = rw (
     no_index_row o0 _ shows.settings (plain o0 (inl refl)),
     index_row_is o1 _ shows.settings_key (plain o1 (inr (inl refl))),
     no_index_row o2 _ shows.programs (plain o2 (inr (inr (inl refl)))),
     no_index_row o3 _ shows.scripts (plain o3 (inr (inr (inr (inl refl))))),
     no_index_row o4 _ shows.batches (plain o4 (inr (inr (inr (inr (inl refl)))))),
+    index_row_is o5 _ shows.batches_by_stripe (plain o5 (inr (inr (inr (inr (inr (inl refl))))))),
   ) refl
 
   tables_are : schema.tables ≡ tables
@@ -376,15 +428,16 @@ module _ (o0 o1 o2 o3 o4 : Row) (shows : Are o0 o1 o2 o3 o4) (schema : Schema) (
       (more c.1 d.0 batches_table d.1 [] d.2 (made_so o4 d.0 batches_table _ d.3 shows.batches.id shows.batches.made_by shows.batches.made) (zip_nil IsTableRow d.1 d.4))))
 
   indexes_are : schema.indexes ≡ kept_schema.indexes
-  unfolding digits
   indexes_are =
       let zipped = subst (λ rows. AllZip (IsIndexRow schema.tables) rows schema.indexes) index_rows are.indexes in
-      let a = zip_cons (IsIndexRow schema.tables) o1 [] schema.indexes zipped in
-      more schema.indexes a.0 (automatic settings_table 0 (1 ∷ []) 1) a.1 [] a.2 (indexed_so o1 a.0 schema.tables settings_table (1 ∷ []) tables_are (inl refl) refl a.3 shows.settings_key)
-      (zip_nil (IsIndexRow schema.tables) a.1 a.4)
+      let a = zip_cons (IsIndexRow schema.tables) o1 (o5 ∷ []) schema.indexes zipped in
+      let b = zip_cons (IsIndexRow schema.tables) o5 [] a.1 a.4 in
+      more schema.indexes a.0 settings_key a.1 (batches_by_stripe ∷ []) a.2 (indexed_so o1 a.0 schema.tables by_key tables_are (inl refl) a.3 shows.settings_key)
+      (more a.1 b.0 batches_by_stripe b.1 [] b.2 (indexed_so o5 b.0 schema.tables by_stripe tables_are (inr (inl refl)) b.3 shows.batches_by_stripe)
+      (zip_nil (IsIndexRow schema.tables) b.1 b.4))
 
   views_are : schema.views ≡ []
-  views_are = nobody schema.views (no_view five schema are each)
+  views_are = nobody schema.views (no_view six schema are each)
 
   schema_is : schema ≡ kept_schema
   schema_is = λ i. record { tables = tables_are i; indexes = indexes_are i; views = views_are i }
@@ -411,21 +464,24 @@ schema_so objects schema are fronts =
     let c = uncons b.1 _ _ b.4 in
     let d = uncons c.1 _ _ c.4 in
     let e = uncons d.1 _ _ d.4 in
-    let end : e.1 ≡ [] = map_nil e.1 e.4 in
-    let whole : objects ≡ a.0 ∷ b.0 ∷ c.0 ∷ d.0 ∷ e.0 ∷ [] =
-    more objects a.0 a.0 a.1 (b.0 ∷ c.0 ∷ d.0 ∷ e.0 ∷ []) a.2 refl
-    (more a.1 b.0 b.0 b.1 (c.0 ∷ d.0 ∷ e.0 ∷ []) b.2 refl
-    (more b.1 c.0 c.0 c.1 (d.0 ∷ e.0 ∷ []) c.2 refl
-    (more c.1 d.0 d.0 d.1 (e.0 ∷ []) d.2 refl
-    (more d.1 e.0 e.0 e.1 [] e.2 refl end)))) in
-    let shows : Are a.0 b.0 c.0 d.0 e.0 = record {
+    let f = uncons e.1 _ _ e.4 in
+    let end : f.1 ≡ [] = map_nil f.1 f.4 in
+    let whole : objects ≡ a.0 ∷ b.0 ∷ c.0 ∷ d.0 ∷ e.0 ∷ f.0 ∷ [] =
+    more objects a.0 a.0 a.1 (b.0 ∷ c.0 ∷ d.0 ∷ e.0 ∷ f.0 ∷ []) a.2 refl
+    (more a.1 b.0 b.0 b.1 (c.0 ∷ d.0 ∷ e.0 ∷ f.0 ∷ []) b.2 refl
+    (more b.1 c.0 c.0 c.1 (d.0 ∷ e.0 ∷ f.0 ∷ []) c.2 refl
+    (more c.1 d.0 d.0 d.1 (e.0 ∷ f.0 ∷ []) d.2 refl
+    (more d.1 e.0 e.0 e.1 (f.0 ∷ []) e.2 refl
+    (more e.1 f.0 f.0 f.1 [] f.2 refl end))))) in
+    let shows : Are a.0 b.0 c.0 d.0 e.0 f.0 = record {
       settings = shows_table a.0 settings_table _ settings_made a.3;
-      settings_key = shows_key b.0 settings_table b.3;
+      settings_key = shows_index b.0 by_key b.3;
       programs = shows_table c.0 programs_table _ programs_made c.3;
       scripts = shows_table d.0 scripts_table _ scripts_made d.3;
       batches = shows_table e.0 batches_table _ batches_made e.3;
+      batches_by_stripe = shows_index f.0 by_stripe f.3;
     } in
-    schema_is a.0 b.0 c.0 d.0 e.0 shows schema (subst (λ rows. AreListed rows schema) {y = a.0 ∷ b.0 ∷ c.0 ∷ d.0 ∷ e.0 ∷ []} whole are)
+    schema_is a.0 b.0 c.0 d.0 e.0 f.0 shows schema (subst (λ rows. AreListed rows schema) {y = a.0 ∷ b.0 ∷ c.0 ∷ d.0 ∷ e.0 ∷ f.0 ∷ []} whole are)
 
 -- ---- a file that was just opened
 

@@ -7,6 +7,7 @@ use Rattle.sqlite.specs.Query.{Query, inner, end}
 use Rattle.sqlite.specs.Source.TheVariants.{Values}
 use Rattle.sqlite.specs.Command.TheVariants.{Insert, InsertOr, Delete, Select}
 use Rattle.sqlite.specs.Compile.{compiled, table_defined_by}
+use Rattle.sqlite_resolve.specs.Compile.{index_defined_by}
 use Rattle.sqlite.specs.Listing.{understood, reads_listing, if_select, listing_schema}
 use Rattle.sqlite.proofs.Callers.{IsPlain, command_of}
 use Rattle.sqlite_schema.specs.declared.command.Conflict.TheVariants.{Replace}
@@ -14,7 +15,7 @@ use Rattle.sqlite_schema.specs.declared.program.Program.{Program}
 use Rattle.sqlite_sql.specs.declared.ops.BinaryOp.TheVariants.{Compare}
 use Rattle.sqlite_sql.specs.declared.ops.CompareOp.TheVariants.{Eq}
 use Rattle.sqlite_tied.specs.Compute.{everything}
-use Rattle.kept_file.specs.Tables.{kept_schema, settings_table, programs_table, scripts_table, batches_table}
+use Rattle.kept_file.specs.Tables.{kept_schema, settings_table, programs_table, scripts_table, batches_table, batches_by_stripe}
 use Rattle.kept_file.specs.declared.batches.TheConstants.{BATCHES}
 use Rattle.kept_file.specs.declared.tables.TheConstants.{OBJECTS}
 use Rattle.kept_file.specs.declared.schema.TheConstants as schema
@@ -35,6 +36,10 @@ pub batches_made : table_defined_by schema.BATCHES.now ≡ Ok (record batches_ta
 unfolding everything
 batches_made = refl
 
+pub by_stripe_made : index_defined_by batches_table schema.BATCHES_BY_STRIPE.now ≡ Ok (record batches_by_stripe { tree = 0 })
+unfolding everything
+by_stripe_made = refl
+
 -- what a batch's row is put in with
 abbrev pub append_terms : List Term
 append_terms = lit Null ∷ lit Null ∷ col 0 0 ∷ col 0 1 ∷ []
@@ -42,6 +47,10 @@ append_terms = lit Null ∷ lit Null ∷ col 0 0 ∷ col 0 1 ∷ []
 -- the stripe of a stored batch is the one that is given
 abbrev pub of_stripe : Term
 of_stripe = op2 (Compare Eq Binary) (col 1 2) (col 0 0)
+
+-- its number is the one that is given
+abbrev pub of_number : Term
+of_number = op2 (Compare Eq Binary) (col 1 0) (col 0 0)
 
 -- the rows of a tree that pass, with these columns
 abbrev pub query_in : ℕ → List Term → List Term → Query
@@ -68,9 +77,13 @@ pub append_is : command_of (understood kept_schema schema.APPEND.now) ≡ Insert
 unfolding understood everything
 append_is = refl
 
-pub clear_is : command_of (understood kept_schema schema.START_ANEW.now) ≡ Delete 3 (program_of (query_of (of_stripe ∷ []) (col 1 0 ∷ [])))
+pub numbers_is : command_of (understood kept_schema schema.NUMBERS.now) ≡ Select (program_of (query_of (of_stripe ∷ []) (col 1 0 ∷ []))) (codes "number" ∷ [])
 unfolding understood everything
-clear_is = refl
+numbers_is = refl
+
+pub remove_is : command_of (understood kept_schema schema.REMOVE.now) ≡ Delete 3 (program_of (query_of (of_number ∷ []) (col 1 0 ∷ [])))
+unfolding understood everything
+remove_is = refl
 
 pub batches_is : command_of (understood kept_schema BATCHES.now)
     ≡ Select (program_of (query_of [] (col 1 0 ∷ col 1 2 ∷ col 1 3 ∷ []))) (codes "number" ∷ codes "stripe" ∷ codes "changes" ∷ [])
@@ -81,9 +94,17 @@ pub append_plain : IsPlain (understood kept_schema schema.APPEND.now)
 unfolding understood everything
 append_plain = (refl, refl)
 
-pub clear_plain : IsPlain (understood kept_schema schema.START_ANEW.now)
+pub numbers_plain : IsPlain (understood kept_schema schema.NUMBERS.now)
 unfolding understood everything
-clear_plain = (refl, refl)
+numbers_plain = (refl, refl)
+
+pub numbers_unlisted : reads_listing kept_schema schema.NUMBERS.now ≡ false
+unfolding understood everything
+numbers_unlisted = refl
+
+pub remove_plain : IsPlain (understood kept_schema schema.REMOVE.now)
+unfolding understood everything
+remove_plain = (refl, refl)
 
 pub batches_plain : IsPlain (understood kept_schema BATCHES.now)
 unfolding understood everything

@@ -5,5 +5,5 @@ pub mod Lending
 pub mod Reading
 pub mod Rows
 pub mod Saves
-pub mod Statements
+pub mod Steps
 pub mod Tables

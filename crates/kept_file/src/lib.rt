@@ -1,4 +1,4 @@
-//! The file in which a map is kept: a SQLite database of four tables.
+//! The file in which a map is kept: a SQLite database of four tables and an index.
 //!
 //! `KeptFile::open` opens it or makes it. A save is one transaction of its `connection`: until `Save::commit` the file is as it
 //! was, and if the save is dropped, or the process ends, it stays so (`Survives` of the kit's `sqlite`). What a file holds is read

@@ -11,7 +11,7 @@ ghost use Rattle.kept_file.specs.Tables.{kept_objects, object_row, table_row};
 use crate::fault::KeepFault;
 use crate::query::number_at;
 use crate::rows::all_rows;
-use crate::schema::{BATCHES, PROGRAMS, SCRIPTS, SETTINGS};
+use crate::schema::{BATCHES, BATCHES_BY_STRIPE, PROGRAMS, SCRIPTS, SETTINGS};
 use sqlite::types::ValueRef;
 use sqlite::{Alter, Connection, Row};
 
@@ -70,6 +70,19 @@ fn is_key(row: &Row, number: u64, name: &str, table: &str) -> bool
         && has_nothing(row, 4)
 }
 
+/// Tests whether the row is that of the index of a table that this text makes, under this number in the list.
+#[tactic(auto, using(crate::proofs::RowLemmas::five))]
+fn is_index(row: &Row, number: u64, name: &str, table: &str, made_by: &str) -> bool
+    ensures { IsTrue result → row.now ≡ object_row number (codes "index") name.now table.now (Text made_by.now) }
+{
+    row.column_count() == COLUMNS
+        && has_number(row, 0, number)
+        && has_text(row, 1, "index")
+        && has_text(row, 2, name)
+        && has_text(row, 3, table)
+        && has_text(row, 4, made_by)
+}
+
 /// `NotKept` if this is false.
 fn expect(holds: bool) -> Result<(), KeepFault>
     ensures { OnOk result (IsTrue holds) }
@@ -85,14 +98,29 @@ fn expect(holds: bool) -> Result<(), KeepFault>
 fn expect_kept(rows: &[Row]) -> Result<(), KeepFault>
     ensures { OnOk result (rows.now ≡ kept_objects) }
 {
-    let [settings, settings_key, programs, scripts, batches] = rows else {
+    let [
+        settings,
+        settings_key,
+        programs,
+        scripts,
+        batches,
+        by_stripe,
+    ] = rows
+    else {
         return Err(KeepFault::NotKept);
     };
     expect(is_table(settings, 1, "settings", SETTINGS))?;
     expect(is_key(settings_key, 2, "sqlite_autoindex_settings_1", "settings"))?;
     expect(is_table(programs, 3, "programs", PROGRAMS))?;
     expect(is_table(scripts, 4, "scripts", SCRIPTS))?;
-    expect(is_table(batches, 5, "batches", BATCHES))
+    expect(is_table(batches, 5, "batches", BATCHES))?;
+    expect(is_index(
+        by_stripe,
+        6,
+        "batches_by_stripe",
+        "batches",
+        BATCHES_BY_STRIPE,
+    ))
 }
 
 /// Tests a file's list of its objects. `NotKept` if it is not that of a new file, else the faults of `read_fault`.

@@ -1,4 +1,4 @@
--- What the statements of a save make of the stripes that a file has.
+-- What the steps of a save make of the stripes that a file has.
 use Rattle.std.proofs.Common.{◌≡◌, ◌≢◌, ◌∙◌, ◌⊎◌, ℕ, zero, suc, ◌+◌, ◌^◌, ◌<◌, ◌≤◌, Bool, true, false, cond, List, [], ◌∷◌, ◌++◌, map, Option, All, IsTrue, refl, sym, ap, subst, inl, inr, arith}
 use Rattle.std.proofs.lemmas.List.{map-append}
 use Rattle.std.specs.FinMap as finite
@@ -15,8 +15,7 @@ use Rattle.bins.specs.Table.{Table}
 use Rattle.kept_file.specs.Changes.{Change, IsWithin, changes_bytes}
 use Rattle.kept_file.specs.Content.{Appends, ChangesOf, HasBatches, HasTables, batch_in, batches_of, others_of}
 use Rattle.kept_file.specs.Rows.{kept_number}
-use Rattle.kept_file.specs.Saves.{Makes}
-use Rattle.kept_file.specs.Statements.{Statement, clearing}
+use Rattle.kept_file.specs.Steps.{Step, MakesStep, clearing}
 use Rattle.kept_file.specs.Tables.{batches_tree}
 use Rattle.kept_file.proofs.AppendLemmas.{appends}
 use Rattle.kept_file.proofs.ChangeLemmas.{spells_all}
@@ -38,7 +37,7 @@ use Rattle.map_keeper.specs.Kept.{IsInStep, IsSavedPartly, with_trees}
 use Rattle.map_keeper.specs.Saves.{IsWholeIn}
 use Rattle.map_keeper.specs.Stripes.{HasStripe}
 use Rattle.map_keeper.proofs.SaveLemmas.{lower_or_not, same_or_not as same_stripe, below as stripe_below}
-use Rattle.map_keeper.specs.Written.{Round, BeginsAnew, IsFit, MakesAll, SavesFrom, SavesMap, SavesParts, SavesStripe, WouldSave, WritesPart, IsOther, rows_of, statement_of, statements_of, statements_in, action_of, actions_in, begun}
+use Rattle.map_keeper.specs.Written.{Round, BeginsAnew, IsFit, MakesAll, SavesFrom, SavesMap, SavesParts, SavesStripe, WouldSave, WritesPart, IsOther, rows_of, step_of, steps_of, steps_in, action_of, actions_in, begun}
 
 -- stripes below 2 ^ 63 are kept under numbers of their own
 pub kept_apart : (j k : ℕ) → j < 2 ^ 63 → k < 2 ^ 63 → j ≢ k → kept_number j ≢ kept_number k
@@ -53,7 +52,7 @@ put_rows-append table (x ∷ xs) ys = put_rows-append (with_value table x.0 x.1)
 values_more : (table : Table) (xs ys : List Change) → put_rows table (values_of (xs ++ ys)) ≡ put_rows (put_rows table (values_of xs)) (values_of ys)
 values_more table xs ys = ap (put_rows table) (map-append (λ (row : Change). (row.0, value_in row.1)) xs ys) ∙ put_rows-append table (values_of xs) (values_of ys)
 
--- ---- one statement
+-- ---- one step
 
 -- a batch comes
 stripe_more : (k : ℕ) (part : List Change) (old new : State) (table : Table) → All IsWithin part → Appends (kept_number k) (changes_bytes part) old new → HasStripe old k table
@@ -115,7 +114,7 @@ pub record ChangesBetween (w : View GhostAction) (n start end : ℕ) (old new : 
 
 module _ {S : Type 0} (shown : Held S → State) where
   parts_change : (k : ℕ) (parts : List (List SavedRow)) (table : Table) (old new : Held S) → All (All IsWithin) parts → HasTables (shown old) → HasStripe (shown old) k table
-      → MakesAll shown (map (statement_of k) parts) old new → Changes k (put_rows table (values_of (rows_of parts))) (shown old) (shown new)
+      → MakesAll shown (map (step_of k) parts) old new → Changes k (put_rows table (values_of (rows_of parts))) (shown old) (shown new)
   unfolding MakesAll
   parts_change k [] table old new within has stripe same =
       subst (λ (h : Held S). Changes k table (shown old) (shown h)) (sym same) (record { tables = has; mine = stripe; others = λ j other apart was. was })
@@ -131,15 +130,15 @@ module _ {S : Type 0} (shown : Held S → State) where
 
   -- a round, if rows before it count no more, or if the file had what was handed out before it
   round_changes : (k : ℕ) (round : Round) (table : Table) (old new : Held S) → IsFit round → HasTables (shown old) → (is_anew round.taken ≡ true) ⊎ HasStripe (shown old) k table
-      → MakesAll shown (statements_of k round) old new → Changes k (kept_after table (action_of round)) (shown old) (shown new)
+      → MakesAll shown (steps_of k round) old new → Changes k (kept_after table (action_of round)) (shown old) (shown new)
   unfolding MakesAll
   round_changes k round table old new fit has start made = by_anew (is_anew round.taken) refl start made
     where
-      by_anew : (anew : Bool) → is_anew round.taken ≡ anew → (is_anew round.taken ≡ true) ⊎ HasStripe (shown old) k table → MakesAll shown (statements_of k round) old new
+      by_anew : (anew : Bool) → is_anew round.taken ≡ anew → (is_anew round.taken ≡ true) ⊎ HasStripe (shown old) k table → MakesAll shown (steps_of k round) old new
           → Changes k (kept_after table (action_of round)) (shown old) (shown new)
       by_anew true is start made =
-          let made_all = subst (λ b. MakesAll shown (cond b (clearing k ∷ []) [] ++ map (statement_of k) round.parts) old new) is made in
-          let cleared = clears (kept_number k) (shown old) (shown made_all.0) has made_all.1 in
+          let made_all = subst (λ b. MakesAll shown (cond b (clearing k ∷ []) [] ++ map (step_of k) round.parts) old new) is made in
+          let cleared = clears shown (kept_number k) old made_all.0 has made_all.1 in
           let more = parts_change k round.parts finite.empty made_all.0 new fit cleared.tables (stripe_cleared k (shown old) (shown made_all.0) cleared) made_all.2 in
           subst (λ b. Changes k (put_rows (cond b finite.empty table) (values_of (rows_of round.parts))) (shown old) (shown new)) (sym is) (record {
             tables = more.tables;
@@ -147,13 +146,13 @@ module _ {S : Type 0} (shown : Held S → State) where
             others = λ j other apart was. more.others j other apart (clear_beside j k (shown old) (shown made_all.0) other apart cleared was);
           })
       by_anew false is start made =
-          let made_rows = subst (λ b. MakesAll shown (cond b (clearing k ∷ []) [] ++ map (statement_of k) round.parts) old new) is made in
+          let made_rows = subst (λ b. MakesAll shown (cond b (clearing k ∷ []) [] ++ map (step_of k) round.parts) old new) is made in
           let stripe : HasStripe (shown old) k table = elim start [ inl all ↦ absurd (let e = sym is ∙ all in cc) | inr had ↦ had ] in
           subst (λ b. Changes k (put_rows (cond b finite.empty table) (values_of (rows_of round.parts))) (shown old) (shown new)) (sym is)
           (parts_change k round.parts table old new fit has stripe made_rows)
 
-  -- statements, and then more of them
-  makes_apart : (xs ys : List Statement) (old new : Held S) → MakesAll shown (xs ++ ys) old new → (mid : Held S) × MakesAll shown xs old mid × MakesAll shown ys mid new
+  -- steps, and then more of them
+  makes_apart : (xs ys : List Step) (old new : Held S) → MakesAll shown (xs ++ ys) old new → (mid : Held S) × MakesAll shown xs old mid × MakesAll shown ys mid new
   unfolding MakesAll
   makes_apart [] ys old new made = (old, refl, made)
   makes_apart (x ∷ xs) ys old new made = let more = makes_apart xs ys made.0 new made.2 in (more.0, (made.0, made.1, more.1), more.2)
@@ -163,21 +162,21 @@ module _ {S : Type 0} (shown : Held S → State) where
   after_rounds table (round ∷ rounds) = after_rounds (kept_after table (action_of round)) rounds
 
   later_change : (k : ℕ) (rounds : List Round) (table : Table) (old new : Held S) → All IsFit rounds → HasTables (shown old) → HasStripe (shown old) k table
-      → MakesAll shown (statements_in k rounds) old new → Changes k (after_rounds table rounds) (shown old) (shown new)
+      → MakesAll shown (steps_in k rounds) old new → Changes k (after_rounds table rounds) (shown old) (shown new)
   unfolding MakesAll
   later_change k [] table old new fit has stripe same =
       subst (λ (h : Held S). Changes k table (shown old) (shown h)) (sym same) (record { tables = has; mine = stripe; others = λ j other apart was. was })
   later_change k (round ∷ rounds) table old new fit has stripe made =
-      let parts = makes_apart (statements_of k round) (statements_in k rounds) old new made in
+      let parts = makes_apart (steps_of k round) (steps_in k rounds) old new made in
       let one = round_changes k round table old parts.0 (fit 0 round (omega arith)) has (inr stripe) parts.1 in
       let more = later_change k rounds (kept_after table (action_of round)) parts.0 new (λ i d low. fit (suc i) d (omega (arith, low))) one.tables one.mine parts.2 in
       record { tables = more.tables; mine = more.mine; others = λ j other apart was. more.others j other apart (one.others j other apart was) }
 
   -- all rounds, the first of which may begin anew
   rounds_change : (k : ℕ) (first : Round) (rounds : List Round) (table : Table) (old new : Held S) → All IsFit (first ∷ rounds) → HasTables (shown old) → (is_anew first.taken ≡ true) ⊎ HasStripe (shown old) k table
-      → MakesAll shown (statements_in k (first ∷ rounds)) old new → Changes k (after_rounds table (first ∷ rounds)) (shown old) (shown new)
+      → MakesAll shown (steps_in k (first ∷ rounds)) old new → Changes k (after_rounds table (first ∷ rounds)) (shown old) (shown new)
   rounds_change k first rounds table old new fit has start made =
-      let parts = makes_apart (statements_of k first) (statements_in k rounds) old new made in
+      let parts = makes_apart (steps_of k first) (steps_in k rounds) old new made in
       let one = round_changes k first table old parts.0 (fit 0 first (omega arith)) has start parts.1 in
       let more = later_change k rounds (kept_after table (action_of first)) parts.0 new (λ i d low. fit (suc i) d (omega (arith, low))) one.tables one.mine parts.2 in
       record { tables = more.tables; mine = more.mine; others = λ j other apart was. more.others j other apart (one.others j other apart was) }
@@ -215,7 +214,7 @@ module _ {S : Type 0} (shown : Held S → State) where
       let table = kept_in (mine_of v k) in
       let begins = subst (BeginsAnew anew) some.2 handed.start in
       let first : (is_anew some.0.taken ≡ true) ⊎ HasStripe (shown old) k table = elim start [ inl all ↦ inl (begins all) | inr had ↦ inr had ] in
-      let change = rounds_change k some.0 some.1 table old new (subst (All IsFit) some.2 saves.fit) has first (subst (λ r. MakesAll shown (statements_in k r) old new) some.2 saves.made) in
+      let change = rounds_change k some.0 some.1 table old new (subst (All IsFit) some.2 saves.fit) has first (subst (λ r. MakesAll shown (steps_in k r) old new) some.2 saves.made) in
       let is : after_rounds table (some.0 ∷ some.1) ≡ kept_in (mine_of w k) =
       ap (after_rounds table) (sym some.2) ∙ (after_their_actions table saves.rounds ∙ (ap (after_actions table) (sym handed.actions)
       ∙ (sym (kept_by_actions table handed.events) ∙ (sym (kept_append finite.empty (mine_of v k) handed.events) ∙ ap kept_in (sym handed.made))))) in
@@ -251,32 +250,32 @@ module _ {S : Type 0} (shown : Held S → State) where
 
   -- ---- what else is written, and the commit
 
-  other_stays : (stripes : ℕ) (statement : Statement) (old new : State) → stripes < 2 ^ 63 → IsOther stripes statement → HasTables old → Makes statement.0 statement.1 old new
-      → HasTables new × ((j : ℕ) (table : Table) → j < stripes → HasStripe old j table → HasStripe new j table)
-  other_stays stripes statement old new high (inl (k, beyond, is)) has made =
-      let cleared = clears (kept_number k) old new has (subst (λ (s : Statement). Makes s.0 s.1 old new) is made) in (
+  other_stays : (stripes : ℕ) (step : Step) (old new : Held S) → stripes < 2 ^ 63 → IsOther stripes step → HasTables (shown old) → MakesStep shown step old new
+      → HasTables (shown new) × ((j : ℕ) (table : Table) → j < stripes → HasStripe (shown old) j table → HasStripe (shown new) j table)
+  other_stays stripes step old new high (inl (k, beyond, is)) has made =
+      let cleared = clears shown (kept_number k) old new has (subst (λ (s : Step). MakesStep shown s old new) is made) in (
         cleared.tables,
         λ j table low had.
             let apart : kept_number j ≢ kept_number k = λ e. omega (arith, low, beyond, high, e) in
-            clear_beside j k old new table apart cleared had,
+            clear_beside j k (shown old) (shown new) table apart cleared had,
       )
-  other_stays stripes statement old new high (inr (inl (count, is))) has made =
-      let stays = sets _ old new has (subst (λ (s : Statement). Makes s.0 s.1 old new) is made) in
-      (stays.tables, λ j table low had. stripe_stays j old new table stays had)
-  other_stays stripes statement old new high (inr (inr (inl (text, is)))) has made =
-      let stays = scripts _ old new has (subst (λ (s : Statement). Makes s.0 s.1 old new) is made) in
-      (stays.tables, λ j table low had. stripe_stays j old new table stays had)
-  other_stays stripes statement old new high (inr (inr (inr (at, sizes, bytes, is)))) has made =
-      let stays = programs _ old new has (subst (λ (s : Statement). Makes s.0 s.1 old new) is made) in
-      (stays.tables, λ j table low had. stripe_stays j old new table stays had)
+  other_stays stripes step old new high (inr (inl (count, is))) has made =
+      let stays = sets _ (shown old) (shown new) has (subst (λ (s : Step). MakesStep shown s old new) is made) in
+      (stays.tables, λ j table low had. stripe_stays j (shown old) (shown new) table stays had)
+  other_stays stripes step old new high (inr (inr (inl (text, is)))) has made =
+      let stays = scripts _ (shown old) (shown new) has (subst (λ (s : Step). MakesStep shown s old new) is made) in
+      (stays.tables, λ j table low had. stripe_stays j (shown old) (shown new) table stays had)
+  other_stays stripes step old new high (inr (inr (inr (at, sizes, bytes, is)))) has made =
+      let stays = programs _ (shown old) (shown new) has (subst (λ (s : Step). MakesStep shown s old new) is made) in
+      (stays.tables, λ j table low had. stripe_stays j (shown old) (shown new) table stays had)
 
-  others_stay : (stripes : ℕ) (others : List Statement) (old new : Held S) → stripes < 2 ^ 63 → All (IsOther stripes) others → HasTables (shown old) → MakesAll shown others old new
+  others_stay : (stripes : ℕ) (others : List Step) (old new : Held S) → stripes < 2 ^ 63 → All (IsOther stripes) others → HasTables (shown old) → MakesAll shown others old new
       → HasTables (shown new) × ((j : ℕ) (table : Table) → j < stripes → HasStripe (shown old) j table → HasStripe (shown new) j table)
   unfolding MakesAll
   others_stay stripes [] old new high are has same =
       (subst (λ (h : Held S). HasTables (shown h)) (sym same) has, λ j table low had. subst (λ (h : Held S). HasStripe (shown h) j table) (sym same) had)
   others_stay stripes (x ∷ others) old new high are has made =
-      let one = other_stays stripes x (shown old) (shown made.0) high (are 0 x (omega arith)) has made.1 in
+      let one = other_stays stripes x old made.0 high (are 0 x (omega arith)) has made.1 in
       let more = others_stay stripes others made.0 new high (λ i d low. are (suc i) d (omega (arith, low))) one.0 made.2 in
       (more.0, λ j table low had. more.1 j table low (one.1 j table low had))
 

@@ -1,4 +1,4 @@
--- Statements one after the other, and the rows that they are of.
+-- Steps one after the other, and the rows that they are of.
 use Rattle.std.proofs.Common.{◌≡◌, ◌==◌, ◌∙◌, ◌≢◌, ◌+◌, ◌<◌, ◌≤◌, ℕ, zero, suc, Bool, All, IsTrue, true, if◌then◌else◌, List, [], ◌∷◌, ◌++◌, map, length, Result, Ok, Err, IfErr, OnOk, refl, sym, ap, subst, inl, inr, arith, length-append}
 use Rattle.std.proofs.lemmas.Bool.Decides.{nat_tests}
 use Rattle.std.proofs.lemmas.List.{append-nil, append_assoc, map-append}
@@ -13,8 +13,7 @@ use Rattle.stripe_rule.specs.Gains.{Keeps, seen_of, mine_of, own_event}
 use Rattle.noted_bins.specs.Rows.{Row, values_of}
 use Rattle.noted_bins.specs.Notes.{is_anew}
 use Rattle.noted_bins.specs.declared.taken.Taken.{Taken}
-use Rattle.kept_file.specs.Saves.{Makes}
-use Rattle.kept_file.specs.Statements.{Statement, appending, clearing}
+use Rattle.kept_file.specs.Steps.{Step, MakesStep, appending, clearing}
 use Rattle.kept_file.specs.Changes.{IsWithin, change_bytes}
 use Rattle.kept_file.proofs.ChangeLemmas.{changes_bytes-more, changes_bytes-none}
 use Rattle.bin_stripes.specs.declared.ghost_action.GhostAction.{GhostAction}
@@ -22,7 +21,7 @@ use Rattle.bin_stripes.specs.Actions.{Action, saved}
 use Rattle.bin_stripes.specs.Passes.{PassState}
 use Rattle.bin_stripes.specs.Saves.{SavesStripe as Saves}
 use Rattle.map_keeper.proofs.SaveLemmas.{same_or_not, below}
-use Rattle.map_keeper.specs.Written.{BeginsAnew, IsFit, Round, action_of, rows_of, statement_of, statements_of, statements_in, HandsOut, EndsWithOwn, IsSavedSince, IsOther, MakesAll, Pending, SavesStripe, SavesBetween, SavesFrom, WritesOthers, WritesRound, WritesRows}
+use Rattle.map_keeper.specs.Written.{BeginsAnew, IsFit, Round, action_of, rows_of, step_of, steps_of, steps_in, HandsOut, EndsWithOwn, IsSavedSince, IsOther, MakesAll, Pending, SavesStripe, SavesBetween, SavesFrom, WritesOthers, WritesRound, WritesRows}
 
 -- a list of no length has nothing
 pub none_left : (bytes : List ℕ) → (length bytes == 0) ≡ true → bytes ≡ []
@@ -154,12 +153,12 @@ since_after anew v u w k keeps since = (since.0, ends_after anew v u w k since.0
 pub keeps_same : (v : View GhostAction) (k : ℕ) → Keeps v v k
 keeps_same v k = record { seen = refl; mine = refl }
 
--- the statements of one round more
-pub statements_in-more : (k : ℕ) (rounds : List Round) (round : Round) → statements_in k (rounds ++ round ∷ []) ≡ statements_in k rounds ++ statements_of k round
-statements_in-more k [] round = append-nil (statements_of k round)
-statements_in-more k (first ∷ rounds) round =
-    ap (λ (l : List Statement). statements_of k first ++ l) (statements_in-more k rounds round)
-    ∙ sym (append_assoc (statements_of k first) (statements_in k rounds) (statements_of k round))
+-- the steps of one round more
+pub steps_in-more : (k : ℕ) (rounds : List Round) (round : Round) → steps_in k (rounds ++ round ∷ []) ≡ steps_in k rounds ++ steps_of k round
+steps_in-more k [] round = append-nil (steps_of k round)
+steps_in-more k (first ∷ rounds) round =
+    ap (λ (l : List Step). steps_of k first ++ l) (steps_in-more k rounds round)
+    ∙ sym (append_assoc (steps_of k first) (steps_in k rounds) (steps_of k round))
 
 -- what follows if a call returned `Ok`
 pub on_ok : {A E : Type 0} (r : Result A E) (P Q : Type 0) → (P → Q) → OnOk r P → OnOk r Q
@@ -196,28 +195,28 @@ module _ {S : Type 0} (shown : Held S → State) where
   unfolding MakesAll
   makes_none a = refl
 
-  pub makes_one : (statement : Statement) (a b : Held S) → Makes statement.0 statement.1 (shown a) (shown b) → MakesAll shown (statement ∷ []) a b
+  pub makes_one : (step : Step) (a b : Held S) → MakesStep shown step a b → MakesAll shown (step ∷ []) a b
   unfolding MakesAll
-  makes_one statement a b made = (b, made, refl)
+  makes_one step a b made = (b, made, refl)
 
-  pub makes_then : (xs ys : List Statement) (a b c : Held S) → MakesAll shown xs a b → MakesAll shown ys b c → MakesAll shown (xs ++ ys) a c
+  pub makes_then : (xs ys : List Step) (a b c : Held S) → MakesAll shown xs a b → MakesAll shown ys b c → MakesAll shown (xs ++ ys) a c
   unfolding MakesAll
   makes_then [] ys a b c same after = subst (λ (h : Held S). MakesAll shown ys h c) same after
   makes_then (x ∷ xs) ys a b c one after = (one.0, one.1, makes_then xs ys one.0 b c one.2 after)
 
   -- one round more
-  pub makes_round : (k : ℕ) (rounds : List Round) (round : Round) (a b c : Held S) → MakesAll shown (statements_in k rounds) a b
-      → MakesAll shown (statements_of k round) b c → MakesAll shown (statements_in k (rounds ++ round ∷ [])) a c
+  pub makes_round : (k : ℕ) (rounds : List Round) (round : Round) (a b c : Held S) → MakesAll shown (steps_in k rounds) a b
+      → MakesAll shown (steps_of k round) b c → MakesAll shown (steps_in k (rounds ++ round ∷ [])) a c
   makes_round k rounds round a b c first after =
-      subst (λ (l : List Statement). MakesAll shown l a c) (sym (statements_in-more k rounds round))
-      (makes_then (statements_in k rounds) (statements_of k round) a b c first after)
+      subst (λ (l : List Step). MakesAll shown l a c) (sym (steps_in-more k rounds round))
+      (makes_then (steps_in k rounds) (steps_of k round) a b c first after)
 
-  -- the statements of one part more
-  pub makes_part : (k : ℕ) (parts : List (List Row)) (part : List Row) (a b c : Held S) → MakesAll shown (map (statement_of k) parts) a b
-      → Makes (statement_of k part).0 (statement_of k part).1 (shown b) (shown c) → MakesAll shown (map (statement_of k) (parts ++ part ∷ [])) a c
+  -- the steps of one part more
+  pub makes_part : (k : ℕ) (parts : List (List Row)) (part : List Row) (a b c : Held S) → MakesAll shown (map (step_of k) parts) a b
+      → MakesStep shown (step_of k part) b c → MakesAll shown (map (step_of k) (parts ++ part ∷ [])) a c
   makes_part k parts part a b c before made =
-      subst (λ (l : List Statement). MakesAll shown l a c) (sym (map-append (statement_of k) parts (part ∷ [])))
-      (makes_then (map (statement_of k) parts) (statement_of k part ∷ []) a b c before (makes_one (statement_of k part) b c made))
+      subst (λ (l : List Step). MakesAll shown l a c) (sym (map-append (step_of k) parts (part ∷ [])))
+      (makes_then (map (step_of k) parts) (step_of k part ∷ []) a b c before (makes_one (step_of k part) b c made))
 
   -- ---- rows that are written in parts
 
@@ -250,13 +249,13 @@ module _ {S : Type 0} (shown : Held S → State) where
   rows_of-more (first ∷ parts) part = ap (λ (l : List Row). first ++ l) (rows_of-more parts part) ∙ sym (append_assoc first (rows_of parts) part)
 
   -- what is pending is written
-  pub pending_written : (k : ℕ) (rows : List Row) (bytes : List ℕ) (a b c : Held S) → Pending shown k rows bytes a b → Makes (appending k bytes).0 (appending k bytes).1 (shown b) (shown c)
+  pub pending_written : (k : ℕ) (rows : List Row) (bytes : List ℕ) (a b c : Held S) → Pending shown k rows bytes a b → MakesStep shown (appending k bytes) b c
       → WritesRows shown k rows a c
   pending_written k rows bytes a b c pending made = record {
     parts = pending.parts ++ pending.left ∷ [];
     within = All-append (All IsWithin) pending.parts (pending.left ∷ []) pending.within (All-cons (All IsWithin) pending.left [] pending.left_within (All-nil (All IsWithin)));
     are = pending.are ∙ sym (rows_of-more pending.parts pending.left);
-    made = makes_part k pending.parts pending.left a b c pending.made (subst (λ l. Makes (appending k l).0 (appending k l).1 (shown b) (shown c)) pending.bytes_are made);
+    made = makes_part k pending.parts pending.left a b c pending.made (subst (λ l. MakesStep shown (appending k l) b c) pending.bytes_are made);
   }
 
   -- .. and nothing is pending
@@ -286,18 +285,18 @@ module _ {S : Type 0} (shown : Held S → State) where
   abbrev pub round_of : (k : ℕ) (taken : Taken) (rows : List Row) (a b : Held S) → WritesRound shown k (is_anew taken) rows a b → Round
   round_of k taken rows a b writes = record { taken = taken; parts = writes.rest.parts }
 
-  -- its statements were made
+  -- its steps were made
   round_made : (k : ℕ) (taken : Taken) (rows : List Row) (a b : Held S) (writes : WritesRound shown k (is_anew taken) rows a b)
-      → MakesAll shown (statements_of k (round_of k taken rows a b writes)) a b
-  round_made k taken rows a b writes = makes_then (if is_anew taken then clearing k ∷ [] else []) (map (statement_of k) writes.rest.parts) a writes.mid b writes.start writes.rest.made
+      → MakesAll shown (steps_of k (round_of k taken rows a b writes)) a b
+  round_made k taken rows a b writes = makes_then (if is_anew taken then clearing k ∷ [] else []) (map (step_of k) writes.rest.parts) a writes.mid b writes.start writes.rest.made
 
-  -- rounds of the stripe k since then, whose statements were made
+  -- rounds of the stripe k since then, whose steps were made
   pub record Wrote (anew : Bool) (v w : View GhostAction) (k i : ℕ) (a b : Held S) : Type 0 where
     pub rounds : List Round
     pub hands : HandsOut anew v w k rounds
     pub later : 0 < i → 0 < length rounds
     pub fit : All IsFit rounds
-    pub made : MakesAll shown (statements_in k rounds) a b
+    pub made : MakesAll shown (steps_in k rounds) a b
 
   pub wrote_none : (anew : Bool) (v : View GhostAction) (k : ℕ) (a : Held S) → Wrote anew v v k 0 a a
   wrote_none anew v k a = record { rounds = []; hands = hands_nothing anew v k; later = λ low. absurd (omega (arith, low)); fit = All-nil IsFit; made = makes_none a }
@@ -384,10 +383,9 @@ module _ {S : Type 0} (shown : Held S → State) where
   pub others_none : (stripes : ℕ) (a : Held S) → WritesOthers shown stripes a a
   others_none stripes a = record { others = []; are = All-nil (IsOther stripes); made = makes_none a }
 
-  pub others_one : (stripes : ℕ) (statement : Statement) (a b : Held S) → IsOther stripes statement → Makes statement.0 statement.1 (shown a) (shown b)
-      → WritesOthers shown stripes a b
-  others_one stripes statement a b other made =
-      record { others = statement ∷ []; are = All-cons (IsOther stripes) statement [] other (All-nil (IsOther stripes)); made = makes_one statement a b made }
+  pub others_one : (stripes : ℕ) (step : Step) (a b : Held S) → IsOther stripes step → MakesStep shown step a b → WritesOthers shown stripes a b
+  others_one stripes step a b other made =
+      record { others = step ∷ []; are = All-cons (IsOther stripes) step [] other (All-nil (IsOther stripes)); made = makes_one step a b made }
 
   pub others_then : (stripes : ℕ) (a b c : Held S) → WritesOthers shown stripes a b → WritesOthers shown stripes b c → WritesOthers shown stripes a c
   others_then stripes a b c one two = record {

@@ -1,12 +1,11 @@
--- What a save writes into its file: the statements that the rows ask for which it hands out.
+-- What a save writes into its file: the steps that the rows ask for which it hands out.
 use Rattle.std.specs.Prelude.{◌≡◌, ◌==◌, ◌||◌, ◌⊎◌, ℕ, zero, suc, ◌+◌, ◌<◌, ◌≤◌, Bool, if◌then◌else◌, List, [], ◌∷◌, ◌++◌, map, flat_map, All, IsTrue, true, false, ⊤}
 use Rattle.sqlite.specs.Held.{Held}
 use Rattle.sqlite.specs.State.{State, Shows}
 use Rattle.sqlite.specs.Tree.{Trees}
 use Rattle.bpf_model.specs.declared.input.Sizes.{Sizes}
 use Rattle.kept_file.specs.Changes.{IsWithin, changes_bytes}
-use Rattle.kept_file.specs.Saves.{Makes}
-use Rattle.kept_file.specs.Statements.{Statement, appending, clearing, noting_stripes, adding_script, adding_program}
+use Rattle.kept_file.specs.Steps.{Step, MakesStep, appending, clearing, noting_stripes, adding_script, adding_program}
 use Rattle.stripe_rule.specs.declared.view.Event.{Event}
 use Rattle.stripe_rule.specs.declared.view.View.{View}
 use Rattle.stripe_rule.specs.Gains.{seen_of, mine_of}
@@ -17,9 +16,9 @@ use Rattle.bin_stripes.specs.declared.ghost_action.GhostAction.{GhostAction}
 use Rattle.bin_stripes.specs.Actions.{Action, saved}
 use Rattle.map_keeper.specs.Saves.{IsWholeIn}
 
--- the statement of one batch of rows
-abbrev pub statement_of : ℕ → List Row → Statement
-statement_of k part = appending k (changes_bytes part)
+-- the step of one batch of rows
+abbrev pub step_of : ℕ → List Row → Step
+step_of k part = appending k (changes_bytes part)
 
 -- what was handed out of a stripe in one hold of it: what that came to, and rows, in parts that each make a batch
 pub record Round : Type 0 where
@@ -37,14 +36,14 @@ rows_of parts = flat_map (λ part. part) parts
 abbrev pub action_of : Round → Action
 action_of round = saved round.taken (values_of (rows_of round.parts))
 
--- the statements of a round: if rows before it count no more, what the file has of the stripe goes first
-abbrev pub statements_of : ℕ → Round → List Statement
-statements_of k round = (if is_anew round.taken then clearing k ∷ [] else []) ++ map (statement_of k) round.parts
+-- the steps of a round: if rows before it count no more, what the file has of the stripe goes first
+abbrev pub steps_of : ℕ → Round → List Step
+steps_of k round = (if is_anew round.taken then clearing k ∷ [] else []) ++ map (step_of k) round.parts
 
 -- .. of one round after the other
-abbrev pub statements_in : ℕ → List Round → List Statement
-statements_in k [] = []
-statements_in k (round ∷ rounds) = statements_of k round ++ statements_in k rounds
+abbrev pub steps_in : ℕ → List Round → List Step
+steps_in k [] = []
+steps_in k (round ∷ rounds) = steps_of k round ++ steps_in k rounds
 
 -- the actions of these events
 abbrev pub actions_in : List (Event GhostAction) → List Action
@@ -78,12 +77,12 @@ abbrev pub IsSavedSince : Bool → View GhostAction → View GhostAction → ℕ
 IsSavedSince anew old new k = (rounds : List Round) × EndsWithOwn anew old new k rounds
 
 -- a setting, a script or a program comes into the file, or the entries go of a stripe that a map of so many has not
-abbrev pub IsOther : ℕ → Statement → Type 0
-IsOther stripes statement =
-    ((k : ℕ) × (stripes ≤ k) × (statement ≡ clearing k))
-    ⊎ (((count : ℕ) × (statement ≡ noting_stripes count))
-    ⊎ (((text : List ℕ) × (statement ≡ adding_script text))
-    ⊎ ((at : ℕ) × (sizes : Sizes) × (bytes : List ℕ) × (statement ≡ adding_program at sizes bytes))))
+abbrev pub IsOther : ℕ → Step → Type 0
+IsOther stripes step =
+    ((k : ℕ) × (stripes ≤ k) × (step ≡ clearing k))
+    ⊎ (((count : ℕ) × (step ≡ noting_stripes count))
+    ⊎ (((text : List ℕ) × (step ≡ adding_script text))
+    ⊎ ((at : ℕ) × (sizes : Sizes) × (bytes : List ℕ) × (step ≡ adding_program at sizes bytes))))
 
 -- a map of so many stripes may be saved in several transactions: its file has none, or as many. Of another number a part could take a stripe out
 -- of the file whose entries are in later stripes of the map
@@ -96,17 +95,17 @@ begun held = record held { in_transaction = true }
 
 -- what a connection over the store S shows is `shown`
 module _ {S : Type 0} (shown : Held S → State) where
-  -- these statements were made one after the other
-  unfoldable pub MakesAll : List Statement → Held S → Held S → Type 0
+  -- these steps were made one after the other
+  unfoldable pub MakesAll : List Step → Held S → Held S → Type 0
   MakesAll [] old new = new ≡ old
-  MakesAll (statement ∷ more) old new = (mid : Held S) × Makes statement.0 statement.1 (shown old) (shown mid) × MakesAll more mid new
+  MakesAll (step ∷ more) old new = (mid : Held S) × MakesStep shown step old mid × MakesAll more mid new
 
-  -- the statements of these rows were made, of one part after the other
+  -- the steps of these rows were made, of one part after the other
   pub record WritesRows (k : ℕ) (rows : List Row) (from to : Held S) : Type 0 where
     pub parts : List (List Row)
     pub within : All (All IsWithin) parts
     pub are : rows ≡ rows_of parts
-    pub made : MakesAll (map (statement_of k) parts) from to
+    pub made : MakesAll (map (step_of k) parts) from to
 
   -- .. of the first of them; the others are in a batch that has these bytes and is not written yet
   pub record Pending (k : ℕ) (rows : List Row) (bytes : List ℕ) (from to : Held S) : Type 0 where
@@ -116,20 +115,20 @@ module _ {S : Type 0} (shown : Held S → State) where
     pub left_within : All IsWithin left
     pub are : rows ≡ rows_of parts ++ left
     pub bytes_are : bytes ≡ changes_bytes left
-    pub made : MakesAll (map (statement_of k) parts) from to
+    pub made : MakesAll (map (step_of k) parts) from to
 
-  -- the statements of all the rows were made; if rows before them count no more, what the file had of the stripe went first
+  -- the steps of all the rows were made; if rows before them count no more, what the file had of the stripe went first
   pub record WritesRound (k : ℕ) (anew : Bool) (rows : List Row) (from to : Held S) : Type 0 where
     pub mid : Held S
     pub start : MakesAll (if anew then clearing k ∷ [] else []) from mid
     pub rest : WritesRows k rows mid to
 
-  -- the pass saved the stripe k, and the statements of just the rows that it handed out were made
+  -- the pass saved the stripe k, and the steps of just the rows that it handed out were made
   pub record SavesStripe (anew : Bool) (old new : View GhostAction) (k : ℕ) (from to : Held S) : Type 0 where
     pub rounds : List Round
     pub ends : EndsWithOwn anew old new k rounds
     pub fit : All IsFit rounds
-    pub made : MakesAll (statements_in k rounds) from to
+    pub made : MakesAll (steps_in k rounds) from to
 
   -- .. so many stripes from `start` on, in their order
   unfoldable pub SavesFrom : Bool → View GhostAction → View GhostAction → ℕ → ℕ → Held S → Held S → Type 0
@@ -142,13 +141,13 @@ module _ {S : Type 0} (shown : Held S → State) where
     pub are : start + many ≡ end
     pub saved : SavesFrom anew old new start many from to
 
-  -- statements were made that no entry of a stripe of the map has to do with
+  -- steps were made that no entry of a stripe of the map has to do with
   pub record WritesOthers (stripes : ℕ) (from to : Held S) : Type 0 where
-    pub others : List Statement
+    pub others : List Step
     pub are : All (IsOther stripes) others
     pub made : MakesAll others from to
 
-  -- the stripes from `start` up to `end` of a map of so many were saved, and then such statements were made. What was handed out of each of
+  -- the stripes from `start` up to `end` of a map of so many were saved, and then such steps were made. What was handed out of each of
   -- these stripes by then is what its events leave
   pub record WritesPart (anew : Bool) (old new : View GhostAction) (stripes start end : ℕ) (from to : Held S) : Type 0 where
     pub mid : Held S

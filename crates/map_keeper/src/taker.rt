@@ -3,7 +3,7 @@ ghost use Rattle.std.specs.Prelude.{◌≡◌, ◌≢◌, ℕ, ◌<◌, ◌≤�
 ghost use Rattle.sqlite.specs.Held.{state};
 ghost use Rattle.sqlite.specs.State.{HasCleanDisk, Survives};
 ghost use Rattle.kept_file.specs.Changes.{IsWithin, change_bytes};
-ghost use Rattle.kept_file.specs.Statements.{clearing};
+ghost use Rattle.kept_file.specs.Steps.{clearing};
 ghost use Rattle.stripe_rule.specs.Gains.{Keeps};
 ghost use Rattle.bin_stripes.specs.Passes.{ServesSameMap, stripes_of};
 ghost use Rattle.bin_stripes.specs.Saves.{SavesStripe as HandsOutOf};

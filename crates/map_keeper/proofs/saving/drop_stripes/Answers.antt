@@ -11,7 +11,7 @@ loop-stripe-init g c = record {
   kept = survives_same (state g.S.Store c.args.save.now.conn.now);
 }
 
--- one statement more
+-- one step more
 pub loop-stripe-preserved : goal.loop-stripe-preserved
 loop-stripe-preserved g c = record {
   same_reference = c.start_anew.ensures.same_reference ∙ c.loop-stripe.invariant.same_reference;

@@ -4,7 +4,7 @@ use Rattle.sqlite.specs.State.{HasCleanDisk, Survives}
 use Rattle.map_keeper.specs.Written.{WritesOthers}
 use Rattle.map_keeper.proofs.saving.drop_stripes.Given as goal
 
--- the statements so far were made
+-- the steps so far were made
 abbrev pub invariant-loop-stripe : goal.invariant-loop-stripe
 invariant-loop-stripe g l = record {
   same_reference : l.save.conn.ghost_name ≡ l.fn.save.conn.ghost_name;

@@ -11,7 +11,7 @@ loop-number-init g c = record {
   kept = survives_same (state g.S.Store c.args.save.now.conn.now);
 }
 
--- one statement more
+-- one step more
 pub loop-number-preserved : goal.loop-number-preserved
 loop-number-preserved g c = record {
   same_reference = c.save_program.ensures.same_reference ∙ c.loop-number.invariant.same_reference;

@@ -4,7 +4,7 @@ use Rattle.sqlite.specs.State.{HasCleanDisk, Survives}
 use Rattle.map_keeper.specs.Written.{WritesOthers}
 use Rattle.map_keeper.proofs.saving.save_programs.Given as goal
 
--- the statements so far were made
+-- the steps so far were made
 abbrev pub invariant-loop-number : goal.invariant-loop-number
 invariant-loop-number g l = record {
   same_reference : l.save.conn.ghost_name ≡ l.fn.save.conn.ghost_name;

@@ -11,7 +11,7 @@ loop-text-init g c = record {
   kept = survives_same (state g.S.Store c.args.save.now.conn.now);
 }
 
--- one statement more
+-- one step more
 pub loop-text-preserved : goal.loop-text-preserved
 loop-text-preserved g c = record {
   same_reference = c.script.ensures.same_reference ∙ c.loop-text.invariant.same_reference;

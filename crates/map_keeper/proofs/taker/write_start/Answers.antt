@@ -1,6 +1,6 @@
 use Rattle.std.proofs.Common.{◌∙◌, Bool, if◌then◌else◌, [], ◌∷◌, OnOk, sym, subst}
 use Rattle.sqlite.specs.Held.{state}
-use Rattle.kept_file.specs.Statements.{clearing}
+use Rattle.kept_file.specs.Steps.{clearing}
 use Rattle.map_keeper.specs.Written.{MakesAll}
 use Rattle.map_keeper.proofs.WriteLemmas.{makes_none, makes_one, on_ok, survives_same}
 use Rattle.map_keeper.proofs.taker.write_start.Goals as goal

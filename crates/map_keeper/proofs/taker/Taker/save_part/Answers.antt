@@ -58,7 +58,7 @@ returns-in_err-commit-clause-crash_err g c =
     (crash_committed g.S.Store c.args.had.now.takes_anew v w stripes c.args.from end old last new (rw begun at c.write_part.ensures.kept) c.commit.ensures.survives
     (λ clean. rw begun at (c.in_ok-reached.ensures.wrote clean)))))
 
--- the statements failed
+-- the steps failed
 pub returns-in_err-reached-clause-crash_err : goal.returns-in_err-reached-clause-crash_err
 returns-in_err-reached-clause-crash_err g c =
     let v = c.args.self.now.pass.view in

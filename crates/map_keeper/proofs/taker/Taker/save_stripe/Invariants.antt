@@ -7,7 +7,7 @@ use Rattle.map_keeper.specs.Saves.{MadeOnlySaves}
 use Rattle.map_keeper.proofs.WriteLemmas.{Handed, Wrote}
 use Rattle.map_keeper.proofs.taker.Taker.save_stripe.Given as goal
 
--- the rounds so far made only saves of this stripe, and the statements of their rows were made
+-- the rounds so far made only saves of this stripe, and the steps of their rows were made
 abbrev pub invariant-loop-round : goal.invariant-loop-round
 invariant-loop-round g l = record {
   map : l.self.pass.map ≡ l.fn.self.pass.map;

@@ -7,7 +7,7 @@ use Rattle.map_keeper.specs.Written.{IsSavedSince, SavesBetween}
 use Rattle.map_keeper.proofs.PartLemmas.{IsFresh, IsKept}
 use Rattle.map_keeper.proofs.taker.Taker.save_stripes.Given as goal
 
--- the stripes so far are whole, and the statements of their rows were made
+-- the stripes so far are whole, and the steps of their rows were made
 abbrev pub invariant-loop-stripe : goal.invariant-loop-stripe
 invariant-loop-stripe g l = record {
   map : l.self.pass.map ≡ l.fn.self.pass.map;
