@@ -340,7 +340,7 @@ def backed_up(given: argparse.Namespace, folder: Path) -> None:
 
 FEW_KEYS = [b"few %d" % number for number in range(8000)]
 # A save takes so many keys in one round, that is while it holds their stripe. The last batch of a round isn't full.
-ROUND_KEYS = 1000
+ROUND_KEYS = 250
 # Keys that changed first are noted in lists, so they may be handed out twice: 128, and one more for each 1,024 entries.
 LISTED = 135
 # Twice what the entries need, 65,536, and those of two saves.
@@ -364,7 +364,7 @@ def appended(given: argparse.Namespace, folder: Path) -> None:
     """A save appends just what changed since the last one, in rounds if that is much, and all but the last batch of a round are full."""
     file = folder / "map.db"
     with kept(given.program, file, "--stripes", "1", "--keep-seconds", "3600") as server, resp.Client(server.redis) as client:
-        fill(server, {key: State(b"first") for key in FEW_KEYS})
+        fill(server, {key: State(b"first " * 20) for key in FEW_KEYS})
         same("SAVE", client.ask("SAVE"), resp.OK)
         first, lengths = sizes_of(file)
         same("the changes after the first save", first, len(FEW_KEYS))
@@ -375,7 +375,7 @@ def appended(given: argparse.Namespace, folder: Path) -> None:
         second, longer = sizes_of(file)
         same("the changes after the second save", second - first, 2)
         same("the batches of the first save", longer[:len(lengths)], lengths)
-        fill(server, {key: State(b"again") for key in FEW_KEYS})
+        fill(server, {key: State(b"again " * 20) for key in FEW_KEYS})
         same("SAVE", client.ask("SAVE"), resp.OK)
         third, longest = sizes_of(file)
         same(f"that all keys changed once more, {third - second}", len(FEW_KEYS) <= third - second <= len(FEW_KEYS) + LISTED, True)

@@ -26,10 +26,10 @@ use std::sync::atomic::AtomicU64;
 use std::time::Duration;
 
 /// A round takes the rows of this many keys, while the stripe is held.
-const ROUND_KEYS: usize = 1000;
+const ROUND_KEYS: usize = 250;
 
 /// After this many rounds in which more keys were noted, one round takes all entries anew.
-const ROUNDS: u32 = 1 << 14;
+const ROUNDS: u32 = 1 << 16;
 
 /// With so many bytes a batch is written.
 const BATCH_BYTES: usize = 1 << 14;
