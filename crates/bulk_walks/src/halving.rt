@@ -22,11 +22,11 @@ struct Halves<'a> {
     backs: Vec<Rest<'a>>,
 }
 
-/// With fewer items the calling thread finds their positions alone. Then several threads would take about as long to start.
-const SHARED_ITEMS: usize = 8192;
+/// A thread has at least this many items: it takes about as long to start as to find the positions of half of them.
+const LEAST_SHARE: usize = 4096;
 
-/// Writes the positions of all items in key order. If the workers work apart and there are many items, as many threads find
-/// them as there are workers. Asks for memory only then. Returns `NoMemory` if that is refused.
+/// Writes the positions of all items in key order. If the workers work apart and there are enough items, as many threads find
+/// them as there are workers. Asks for memory only if there are several. Returns `NoMemory` if that is refused.
 pub(crate) fn write_positions<R: Threads + Sync>(
     rt: &R,
     alloc: Global,
@@ -38,11 +38,12 @@ pub(crate) fn write_positions<R: Threads + Sync>(
     requires room { length places.old ≡ sum_by (λ rest. length (left_of rest)) rests.items }
     ensures { OnOk result (PlacesAll rests.entry.items places.new) }
 {
-    if !apart || places.len() < SHARED_ITEMS {
+    let threads = rests.len().min(places.len() / LEAST_SHARE);
+    if !apart || threads < 2 {
         place(&mut rests, places);
         return Ok(());
     }
-    place_all(rt, alloc, &rests, rests.len(), places)
+    place_all(rt, alloc, &rests, threads, places)
 }
 
 /// Writes the positions of all items in key order, in this many threads at once. Returns `NoMemory` if a request for memory is
