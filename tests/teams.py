@@ -1,7 +1,7 @@
 #!/usr/bin/env python3
 """Which threads of mapd walk. A ForEach with a long program goes over many entries: with a team of four, four threads work on it, and with
 a team of one, or below the walk's threshold, one. And a Count starts no thread, where a ForEach does. The system's counts of processor time
-say which threads worked.
+say which threads worked. By each team, and above and below the threshold, a ForEach with many answers gives all of them in key order.
 
 By hand, after `rt run` in crates/mapd: python3 tests/teams.py. Another program is tried by --program."""
 from __future__ import annotations
@@ -18,6 +18,8 @@ import wire  # noqa: E402
 
 # A program of 4,094 units, most of them divisions, which answers nothing.
 LONG = bytes.fromhex("b705000001000000") + bytes.fromhex("3705000003000000") * 4091 + bytes.fromhex("b7000000ffffffff 9500000000000000")
+# A program that answers the first eight bytes of a value.
+COPYING = bytes.fromhex("7920000000000000 7b04000000000000 b700000008000000 9500000000000000")
 SIZES = (64, 1024, 8, 8)
 ENTRIES = 40_000
 PIECE = 4_000
@@ -75,10 +77,10 @@ def try_counts(program: Path) -> None:
         print("teams: a ForEach by a team of four starts threads, a Count none")
 
 
-def put_all(client: wire.Client) -> None:
+def put_all(client: wire.Client, entries: list[tuple[bytes, bytes]]) -> None:
     """Puts the entries, some at a time."""
     for first in range(0, ENTRIES, PIECE):
-        client.send(*(wire.put(b"%d" % entry, b"value") for entry in range(first, first + PIECE)))
+        client.send(*(wire.put(key, value) for key, value in entries[first : first + PIECE]))
         for _ in range(PIECE):
             wire.same("a Put", client.answer(), wire.NOTHING)
 
@@ -92,12 +94,26 @@ def try_team(program: Path, team: int) -> None:
     """Walks with a team of this many, and counts who worked."""
     with wire.started(program, "--workers", "1", "--team", str(team)) as server, wire.opened(server.address, 2) as client:
         number = int.from_bytes(client.ask(wire.register(SIZES, LONG))[1:], "big")
-        put_all(client)
+        put_all(client, [(b"%d" % entry, b"value") for entry in range(ENTRIES)])
         # from the first entry on, once a worker has found that many itself, or once all have
         for threshold, wanted in ((1, team), (ENTRIES // 8, team), (ENTRIES // 2, team), (ENTRIES + 1, 1)):
             found = threads_that_work(server, client, for_each(number, threshold))
             wire.same(f"how many of a team of {team} walk over {ENTRIES} entries with threshold {threshold}", found, wanted)
             print(f"teams: with a team of {team} and threshold {threshold}, {found} walk over {ENTRIES} entries")
+
+
+def try_answers(program: Path, team: int) -> None:
+    """Walks over more entries than one thread merges, half of which have keys that begin with the same eight bytes."""
+    entries = {b"%d" % number: b"%08d" % number for number in range(ENTRIES // 2)}
+    entries |= {b"the same" + key: value for key, value in entries.items()}
+    wanted = [wire.item(key, entries[key]) for key in sorted(entries)] + [wire.end(ENTRIES, ENTRIES, 0)]
+    with wire.started(program, "--workers", "1", "--team", str(team)) as server, wire.opened(server.address, 2) as client:
+        number = int.from_bytes(client.ask(wire.register(SIZES, COPYING))[1:], "big")
+        put_all(client, list(entries.items()))
+        for threshold in (1, ENTRIES + 1):
+            answers = client.walk(for_each(number, threshold))
+            wire.same(f"whether the answers of a team of {team} with threshold {threshold} are all, in key order", answers == wanted, True)
+    print(f"teams: a team of {team} gives {ENTRIES} answers in key order")
 
 
 def main() -> None:
@@ -107,6 +123,8 @@ def main() -> None:
     try:
         for team in (4, 1):
             try_team(asked.program, team)
+        for team in (1, 2, 3, 4):
+            try_answers(asked.program, team)
         try_counts(asked.program)
     except (wire.Wrong, wire.Ended) as failure:
         sys.exit(f"teams: FAILED, {failure}")

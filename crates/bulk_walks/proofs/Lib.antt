@@ -17,3 +17,4 @@ pub mod ReplaceLemmas
 pub mod CountLemmas
 pub mod SameScans
 pub mod WholeLemmas
+pub mod HalfLemmas

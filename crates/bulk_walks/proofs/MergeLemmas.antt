@@ -21,8 +21,6 @@ use Rattle.bulk_walks.specs.declared.answers.Answers.{Answers}
 use Rattle.bulk_walks.specs.Kept.{kept_of, kept_in, lists_of_all}
 use Rattle.bulk_walks.specs.Merges.{Remains, HasAll, comes_first, lead_of, lefts_of, left_of, lists_of, whole_of, TakesFirst}
 use Rattle.bins.proofs.SameEntries.{one_if, at_key, first, second, above, at_entry, at_itself, none_above, at_most_key, tied_by_one}
-use Rattle.bulk_walks.proofs.Sums.{sum_of_ones}
-use Rattle.bulk_walks.proofs.TeamLemmas.{head_of}
 
 -- the order of lists by their first keys
 ranks : IsStrictWeakOrder (λ (x y : Entry). is_lt (by_bytes x.0 y.0))
@@ -252,20 +250,6 @@ module _ (rests : List Remains) (which : ℕ) (inside : which < length rests) (o
       (subst (λ (ls : List (List Entry)). TakesFirst (lefts_of rests) (entry_of old.list position) ls) (sym (map-set left_of rests which new))
       (taken (lefts_of rests) which few least (entry_of old.list position) (left_of new) here))
 
--- this many of the whole list are all of it
-pub take_whole : (lists : List (List Entry)) (all : List Entry) (count : ℕ) → HasAll all lists → count ≡ sum_by (λ es. length es) lists → take count all ≡ all
-take_whole lists all count has is =
-    take_all count all (let a = ones lists in let b = has (λ _. 1) in let c = sum_of_ones all in omega (arith, a, b, c, is))
-  where
-    ones : (ls : List (List Entry)) → weigh (λ _. 1) ls ≡ sum_by (λ es. length es) ls
-    ones [] = refl
-    ones (es ∷ ls) =
-        let rest = ones ls in
-        let a = sum_by-cons (λ (xs : List Entry). sum_by (λ _. 1) xs) es ls in
-        let b = sum_by-cons (λ (xs : List Entry). length xs) es ls in
-        let c = sum_of_ones es in
-        omega (arith, rest, a, b, c)
-
 -- if nothing was taken, all items remain, in their order
 pub lefts_whole : (all : List Answers) → lefts_of (map whole_of all) ≡ kept_in all
 lefts_whole [] = refl
@@ -274,14 +258,6 @@ lefts_whole (a ∷ all) = ap (λ (ls : List (List Entry)). kept_of a ∷ ls) (le
 pub lists_whole : (all : List Answers) → lists_of (map whole_of all) ≡ lists_of_all all
 lists_whole [] = refl
 lists_whole (a ∷ all) = ap (λ (ls : List (List Entry)). a.items ∷ ls) (lists_whole all)
-
--- a fact about each worker's items
-pub sorted_items : (all : List Answers) → All (λ a. T (is_sorted by_bytes (kept_of a))) all → All (λ es. T (is_sorted by_bytes es)) (kept_in all)
-sorted_items all sorted = λ k d low.
-    let len = length-map all kept_of in
-    let inside : k < length all = omega (arith, len, low) in
-    let x = head_of all (omega (arith, inside)) in
-    subst (λ (es : List Entry). T (is_sorted by_bytes es)) (sym (get_or-map kept_of all k x d inside)) (sorted k x inside)
 
 -- as many positions are in order as items
 pub ordered_all : (all : List Answers) → sum_by (λ (a : Answers). length a.order.items) all ≡ sum_by (λ es. length es) (kept_in all)

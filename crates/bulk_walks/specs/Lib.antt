@@ -4,3 +4,4 @@ pub mod Merges
 pub mod Kept
 pub mod Leads
 pub mod Runs
+pub mod Halves

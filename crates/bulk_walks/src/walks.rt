@@ -43,7 +43,7 @@ pub fn walk_map<R: Threads + Wait + Sync, G: Gate + Sync>(
     let Ok(answers) = answer_all(rt, alloc, walk, parts, apart) else {
         return (team, Err(NoMemory));
     };
-    (team, merged(alloc, walk.kind, answers))
+    (team, merged(rt, alloc, walk.kind, answers, apart))
 }
 
 /// The walk of kind `Search`: the least key with a present answer, and that answer; or no item.

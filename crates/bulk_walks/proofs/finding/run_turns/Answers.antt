@@ -1,5 +1,4 @@
-use Rattle.std.proofs.Common.{◌≡◌, arith, ◌+◌, ◌++◌, List, [], Result, OnOk, length, refl, sym, ap, subst, ◌∙◌}
-use Rattle.bpf_model.specs.declared.memory.NoMemory.{NoMemory}
+use Rattle.std.proofs.Common.{◌≡◌, arith, ◌+◌, ◌++◌, List, [], length, refl, sym, ap, subst, ◌∙◌}
 use Rattle.bins.specs.Table.{Entry}
 use Rattle.bin_stripes.specs.Invoked.{AreOf}
 use Rattle.bin_stripes.specs.Passes.{PassState, stripes_of}

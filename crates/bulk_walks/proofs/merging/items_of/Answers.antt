@@ -28,7 +28,7 @@ gives_all ForEach is all (Ok items) found = λ replies stand whole order has. fo
 gives_all ForEach is all (Err e) found = found
 
 pub returns-in-Search : goal.returns-in-Search
-returns-in-Search c = gives_first c.args.kind c.in-Search.is c.args.all.items c.of_one.result c.first_of.result c.of_one.ensures c.first_of.ensures
+returns-in-Search g c = gives_first c.args.kind c.in-Search.is c.args.all.items c.of_one.result c.first_of.result c.of_one.ensures c.first_of.ensures
 
 pub returns-in-ForEach : goal.returns-in-ForEach
-returns-in-ForEach c = gives_all c.args.kind c.in-ForEach.is c.args.all.items c.all_items.result c.all_items.ensures
+returns-in-ForEach g c = gives_all c.args.kind c.in-ForEach.is c.args.all.items c.all_items.result c.all_items.ensures

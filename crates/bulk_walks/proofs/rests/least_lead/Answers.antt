@@ -7,8 +7,8 @@ use Rattle.bins.specs.Fronts.{AreBytes}
 use Rattle.bins.specs.Table.{Entry}
 use Rattle.bulk_walks.specs.Merges.{comes_first, lead_of, left_of, lefts_of}
 use Rattle.bulk_walks.proofs.MergeLemmas.{comes_first-itself, comes_first-by_lead}
-use Rattle.bulk_walks.proofs.merging.least_lead.Goals as goal
-use Rattle.bulk_walks.proofs.merging.least_lead.Goals.{then-lead-least, else-lead-least}
+use Rattle.bulk_walks.proofs.rests.least_lead.Goals as goal
+use Rattle.bulk_walks.proofs.rests.least_lead.Goals.{then-lead-least, else-lead-least}
 
 -- one more lead
 pub loop-other-preserved : goal.loop-other-preserved

@@ -1,7 +1,7 @@
 use Rattle.std.proofs.Common.{◌<◌, List, length, sym, subst}
 use Rattle.bulk_walks.specs.Merges.{Remains, lefts_of}
 use Rattle.bulk_walks.proofs.MergeLemmas.{IsLeast, lists_kept, takes_first}
-use Rattle.bulk_walks.proofs.merging.take_least.Goals as goal
+use Rattle.bulk_walks.proofs.rests.take_least.Goals as goal
 
 pub returns-in_err-position-clause-lists : goal.returns-in_err-position-clause-lists
 returns-in_err-position-clause-lists c =

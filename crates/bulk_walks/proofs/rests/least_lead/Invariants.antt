@@ -3,7 +3,7 @@ use Rattle.bins.specs.Entries.{entry_of}
 use Rattle.bins.specs.Fronts.{AreBytes}
 use Rattle.bins.specs.Table.{Entry}
 use Rattle.bulk_walks.specs.Merges.{lead_of, lefts_of}
-use Rattle.bulk_walks.proofs.merging.least_lead.Given as goal
+use Rattle.bulk_walks.proofs.rests.least_lead.Given as goal
 
 -- among the leads so far, the least one and one that is not greater than the others
 abbrev pub invariant-loop-other : goal.invariant-loop-other

@@ -1,7 +1,7 @@
 use Rattle.std.proofs.Common.{◌≡◌, ◌<◌, ℕ, List, false, get_or, length}
 use Rattle.bins.specs.Table.{Entry}
 use Rattle.bulk_walks.specs.Merges.{comes_first, lefts_of}
-use Rattle.bulk_walks.proofs.merging.least_key.Given as goal
+use Rattle.bulk_walks.proofs.rests.least_key.Given as goal
 
 -- no list so far comes before this one
 abbrev pub invariant-loop-other : goal.invariant-loop-other

@@ -4,8 +4,8 @@ use Rattle.std.proofs.lemmas.List.{get_or-map}
 use Rattle.bins.specs.Table.{Entry}
 use Rattle.bulk_walks.specs.Merges.{comes_first, left_of, lefts_of}
 use Rattle.bulk_walks.proofs.MergeLemmas.{comes_first-itself, comes_first-one_way, comes_first-chain}
-use Rattle.bulk_walks.proofs.merging.least_key.Goals as goal
-use Rattle.bulk_walks.proofs.merging.least_key.Goals.{then-is_first, else-is_first}
+use Rattle.bulk_walks.proofs.rests.least_key.Goals as goal
+use Rattle.bulk_walks.proofs.rests.least_key.Goals.{then-is_first, else-is_first}
 
 pub loop-other-init : goal.loop-other-init
 loop-other-init c = record {
