@@ -1,8 +1,8 @@
 #!/usr/bin/env python3
-"""Times Gets of a key while other clients keep its stripe busy: each pipelines computes of 4,096 units, 64 deep, on that key.
+"""Times Gets of a key, or Counts, while other clients keep its stripe busy: each pipelines computes of 4,096 units, 64 deep, on that key.
 
-By hand, after `rt run` in crates/mapd: python3 bench/starving.py [--program P] [--seconds S] [--workers N] [CLIENTS ..]. For each number of
-such clients it prints how long Gets took, in milliseconds (in the middle, at 99 and 99.9 of 100, at worst), how many computes a
+By hand, after `rt run` in crates/mapd: python3 bench/starving.py [--program P] [--seconds S] [--workers N] [--count] [CLIENTS ..]. For each number
+of such clients it prints how long Gets took, in milliseconds (in the middle, at 99 and 99.9 of 100, at worst), how many computes a
 second were answered, and the server's processor time for each in microseconds.
 """
 from __future__ import annotations
@@ -44,12 +44,12 @@ def keep_busy(address: str, answered: Synchronized[int], until: float) -> None:
                 got %= size
 
 
-def time_gets(address: str, until: float) -> list[float]:
-    """How long each Get took, in milliseconds."""
+def time_one(address: str, request: bytes, until: float) -> list[float]:
+    """How long each such request took, in milliseconds."""
     times = []
     with wire.opened(address, 2) as client:
         while (begun := time.monotonic()) < until:
-            client.ask(wire.get(KEY))
+            client.ask(request)
             times.append(1000 * (time.monotonic() - begun))
             time.sleep(0.0002)
     return sorted(times)
@@ -71,7 +71,7 @@ def measure(given: argparse.Namespace, clients: int) -> str:
             process.start()
         time.sleep(0.3)
         count, begun, spent = answered.value, time.monotonic(), seconds_of(server.process.pid)
-        times = time_gets(server.address, until)
+        times = time_one(server.address, wire.COUNT if given.count else wire.get(KEY), until)
         done, took = answered.value - count, time.monotonic() - begun
         cost = (seconds_of(server.process.pid) - spent) / max(done, 1) * 1e6
         for process in busy:
@@ -88,8 +88,9 @@ def main() -> None:
     parser.add_argument("--program", type=Path, default=ROOT / "crates/mapd/out/mapd")
     parser.add_argument("--seconds", type=float, default=10)
     parser.add_argument("--workers", type=int, default=12)
+    parser.add_argument("--count", action="store_true")
     given = parser.parse_args()
-    print("clients    Gets   middle       99     99.9    worst computes/s  us each")
+    print("clients   times   middle       99     99.9    worst computes/s  us each")
     for clients in given.clients:
         print(measure(given, clients), flush=True)
 

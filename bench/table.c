@@ -1,6 +1,6 @@
 /* A map that threads share, to compare ours with. It has 64 stripes by the same hash, each with a lock of the same kind: a word
-   alone in 128 bytes, taken by a compare-exchange and released by an exchange. A thread that waits yields forty times, then
-   sleeps for 50 us between tries; in our map it also goes first if it has waited for long. In a stripe, entries are chained in
+   alone in 128 bytes, taken by a compare-exchange and released by an exchange. A thread that waits yields ten times, then
+   sleeps between tries, for as long as ours does; in our map it also goes first if it has waited for long. In a stripe, entries are chained in
    buckets by a second hash, and there are never more entries than buckets. Each entry is allocated in its exact size, and a call
    copies just the bytes of its answer. Merging adds the numbers, without a program. Numbers have the low byte first, as on x86-64.
    table KIND KEYS THREADS COUNT does what `bench calls` does with these words, and prints the same. */
@@ -18,8 +18,9 @@
 
 enum { STRIPES = 64, STRIPE_BYTES = 128, FIRST_BUCKETS = 8, KEY_BYTES = 64, VALUE_BYTES = 1024, MOST_THREADS = 63 };
 
-/* a thread that waits yields this often, and then sleeps for this many nanoseconds each time */
-enum { YIELDS = 40, NAP_NANOS = 50000 };
+/* a thread that waits yields this often, and then sleeps for these nanoseconds, and again for the first of them */
+enum { YIELDS = 10, NAPS = 3 };
+static const long nap_nanos[NAPS] = {50000, 600000, 1500000};
 
 /* a thread goes on by this many scattered keys from one call to the next */
 enum { STEP = 7919 };
@@ -123,12 +124,13 @@ static bool try_take(struct stripe *stripe)
 
 static __attribute__((noinline, cold)) void wait_for(struct stripe *stripe)
 {
-    static const struct timespec nap = {.tv_nsec = NAP_NANOS};
     for (unsigned rests = 0; !try_take(stripe); rests++) {
-        if (rests < YIELDS)
+        if (rests < YIELDS) {
             sched_yield();
-        else
-            nanosleep(&nap, NULL);
+            continue;
+        }
+        unsigned naps = rests - YIELDS;
+        nanosleep(&(struct timespec){.tv_nsec = nap_nanos[naps < NAPS ? naps : 0]}, NULL);
     }
 }
 

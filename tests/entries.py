@@ -1,8 +1,9 @@
 #!/usr/bin/env python3
 """Bounds what entries cost the built programs, without timing anything. Of mapd: how much its resident memory grows with twice as many
 entries, at six lengths; what is left of it after all are removed, or after long values became short; how many entries fit in a bounded
-address space; how much walks that answer nothing need; and how much a reply needs that isn't read. Of bpfmap, if there is a valgrind: how many instructions a key takes that isn't
-random, beside a random one as long, also while keys of one hash are there, and after they went.
+address space; how much walks that answer nothing need; and how much a reply needs that isn't read. Of bpfmap, if there is a valgrind: how many
+instructions a key takes that isn't random, beside a random one as long, also while keys of one hash are there, and after they went; and how many lines of
+the cache a Get lacks among many entries of one width.
 
 By hand, after `rt run` in crates/bpfmap and crates/mapd: python3 tests/entries.py. Other programs are tried by --bpfmap and --mapd."""
 from __future__ import annotations
@@ -44,6 +45,8 @@ COPYING = b"".join(bytes([0x79, 0x20, at, 0, 0, 0, 0, 0, 0x7b, 0x04, at, 0, 0, 0
 COPYING += bytes.fromhex("b700000060000000 9500000000000000")
 # How many keys of each kind are put and read.
 KEYS = 20_000
+# A Get among this many entries lacks at most this many lines of a cache of 1 MiB. If it read the location of each row, it would lack 4.3.
+LINED, LACKED = 100_000, 3.2
 MEBIBYTE = 1 << 20
 SEARCH, FOR_EACH = 0x20, 0x21
 NO_MEMORY = wire.frame(wire.refused(9))
@@ -183,19 +186,39 @@ def try_unread(program: Path) -> None:
             raise wire.Wrong("the reply that was read late is another one")
 
 
-def instructions(program: Path, bodies: Iterable[bytes]) -> int:
-    """How many instructions `bpfmap exec` takes for these requests."""
+def counted(program: Path, bodies: Iterable[bytes], tool: list[str], number: bytes) -> int:
+    """A number that a tool of valgrind tells of `bpfmap exec` for these requests."""
     sent = wire.frames([wire.hello(2), *bodies])
     with tempfile.TemporaryFile() as file:
         file.write(sent)
         file.seek(0)
-        run = subprocess.run(
-            ["valgrind", "--tool=callgrind", "--callgrind-out-file=/dev/null", str(program), "exec", "--stripes", "1"], stdin=file,
-            capture_output=True, timeout=600, check=False)
-    found = re.search(rb"Collected : (\d+)", run.stderr)
+        run = subprocess.run(["valgrind", *tool, str(program), "exec", "--stripes", "1"], stdin=file, capture_output=True, timeout=600,
+                             check=False)
+    found = re.search(number, run.stderr)
     if run.returncode != 0 or found is None or NO_MEMORY in run.stdout:
         raise wire.Failed(f"status {run.returncode}: {run.stderr[-300:]}")
-    return int(found[1])
+    return int(found[1].replace(b",", b""))
+
+
+def instructions(program: Path, bodies: Iterable[bytes]) -> int:
+    """How many instructions `bpfmap exec` takes for these requests."""
+    return counted(program, bodies, ["--tool=callgrind", "--callgrind-out-file=/dev/null"], rb"Collected : (\d+)")
+
+
+def lines_lacked(program: Path, bodies: Iterable[bytes]) -> int:
+    """How many lines a cache of 1 MiB lacks for these requests."""
+    tool = ["--tool=cachegrind", "--cache-sim=yes", "--LL=1048576,16,64", "--cachegrind-out-file=/dev/null"]
+    return counted(program, bodies, tool, rb"LLd misses: +([\d,]+)")
+
+
+def try_lines(program: Path) -> None:
+    """Bounds how many lines of the cache a Get lacks, among scattered keys in another order than they came."""
+    keys = [scattered(number, 8) for number in range(LINED)]
+    puts = [wire.put(key, bytes(8)) for key in keys]
+    random.Random(7).shuffle(keys)
+    gets = [wire.get(key) for key in keys]
+    most(f"lines of the cache that a Get lacks among {LINED} entries",
+         (lines_lacked(program, puts + gets) - lines_lacked(program, puts)) / LINED, LACKED)
 
 
 def used(keys: Iterable[bytes]) -> list[bytes]:
@@ -254,8 +277,9 @@ def main() -> None:
         try_unread(asked.mapd)
         if shutil.which("valgrind"):
             try_keys(asked.bpfmap)
+            try_lines(asked.bpfmap)
         else:
-            print("entries: no valgrind here, so no instructions were counted")
+            print("entries: no valgrind here, so neither instructions nor lines of the cache were counted")
     except (wire.Wrong, wire.Failed, wire.Ended) as failure:
         sys.exit(f"entries: FAILED, {failure}")
 

@@ -25,8 +25,8 @@
 //! beginnings of one legal list of the stripe's events; if the word is 0, the bins are at home with the table that the list leaves.
 //!
 //! **Who waits.** `call`, `call_into`, `call_at_into`, `expire_one`, `scan_stripe`, `copy_stripe`, `visit_stripe`, `count_stripe`,
-//! `replace_stripe`, `take_changes`, `occupied` and `close` wait until a stripe is free. They sleep between tries, and after a millisecond others let them go first
-//! (`turns`). The `try_` calls, `tell` and `join` never wait. `tell` and `join` cannot fail, and take no memory.
+//! `replace_stripe`, `take_changes`, `occupied` and `close` wait until a stripe is free. They sleep between tries, and after two
+//! milliseconds others let them go first (`turns`). The `try_` calls, `tell` and `join` never wait. `tell` and `join` cannot fail, and take no memory.
 //!
 //! Rejected: a lock round the bins (its contract says nothing about other threads' actions), and a wake by each release (it would have to
 //! ask each time whether someone sleeps).

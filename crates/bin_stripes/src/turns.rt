@@ -1,6 +1,7 @@
-//! Turns at a stripe. A thread that finds a stripe held lets others run, looks again, and sleeps if that didn't help. If it has waited
-//! for a millisecond, it starves: while somebody starves at a stripe, nobody else takes it. Go's `sync.Mutex` does the same, but keeps those
-//! who starve in order. No contract speaks of this: a stripe belongs to the pass that changed its word.
+//! Turns at a stripe. A thread that finds a stripe held lets others run, looks again, and sleeps if that didn't help. If it has
+//! waited for two milliseconds, it starves: while somebody starves at a stripe, nobody else takes it. Go's `sync.Mutex` does the
+//! same after one, but keeps those who starve in order. No contract speaks of this: a stripe belongs to the pass that changed its
+//! word.
 
 use atomic_methods::MAX_STRIPES;
 use std::sync::Wait;
@@ -9,10 +10,10 @@ use std::time::Duration;
 use std::{array, thread};
 
 /// A thread that waits lets others run this often, and looks again each time.
-const YIELDS: u32 = 40;
+const YIELDS: u32 = 10;
 
 /// After that it sleeps for these times, in microseconds, and then it starves. The system adds some 50 to each.
-const NAPS: [u64; 4] = [50, 100, 200, 400];
+const NAPS: [u64; 3] = [50, 600, 1500];
 
 /// A map has at most this many stripes.
 const STRIPES: usize = MAX_STRIPES as usize;

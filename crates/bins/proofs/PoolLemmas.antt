@@ -4,10 +4,10 @@ use Rattle.std.specs.List.{sum_by}
 use Rattle.std.proofs.lemmas.Bool.{cases_Bool, cases_eq, eqb-true}
 use Rattle.std.proofs.lemmas.List.{length-set}
 use Rattle.std.proofs.lemmas.List.Sums.{count_by-le-length, sum_by-cons, sum_by-set}
-use Rattle.bins.specs.declared.raw_rows.TheConstants.{WIDTHS}
-use Rattle.bins.specs.declared.raw_rows.Width.{Width}
-use Rattle.bins.specs.declared.raw_rows.Location.{Location}
-use Rattle.bins.specs.declared.raw_rows.Location.TheVariants.{Vacant, In}
+use Rattle.bins.specs.declared.pool.TheConstants.{WIDTHS}
+use Rattle.bins.specs.declared.locations.Width.{Width}
+use Rattle.bins.specs.declared.locations.Location.{Location}
+use Rattle.bins.specs.declared.locations.Location.TheVariants.{Vacant, In}
 use Rattle.bins.specs.KeptRows.{AreRows, location_at}
 use Rattle.bins.specs.Segments.{AreFew, KeptWidth}
 use Rattle.bins.specs.Rows.{segments_for, total, used, width_at}

@@ -4,11 +4,11 @@ use Rattle.std.specs.Prelude.{vec_capacity}
 use Rattle.std.proofs.lemmas.Bool.{cases_Bool, cases_eq, cases_lt, eqb-true, eq-eqb}
 use Rattle.std.proofs.lemmas.List.{get_or_past, get_or_read, length-set}
 use Rattle.bins.specs.declared.raw_rows.RawRows.{RawRows}
-use Rattle.bins.specs.declared.raw_rows.TheConstants.{WIDTHS}
-use Rattle.bins.specs.declared.raw_rows.TheConstants.{MOST_ROWS, VACANT_CODE}
-use Rattle.bins.specs.declared.raw_rows.Width.{Width}
-use Rattle.bins.specs.declared.raw_rows.Location.{Location}
-use Rattle.bins.specs.declared.raw_rows.Location.TheVariants.{In}
+use Rattle.bins.specs.declared.pool.TheConstants.{WIDTHS}
+use Rattle.bins.specs.declared.locations.TheConstants.{MOST_ROWS, VACANT_CODE}
+use Rattle.bins.specs.declared.locations.Width.{Width}
+use Rattle.bins.specs.declared.locations.Location.{Location}
+use Rattle.bins.specs.declared.locations.Location.TheVariants.{In}
 use Rattle.bins.specs.KeptRows.{AreRows, KeptRow, Lists, is_same_width, location_at, with_rows}
 use Rattle.bins.specs.Segments.{AreFew, KeptWidth, no_width}
 use Rattle.bpf_model.specs.declared.limits.TheConstants.{KEY_BYTES, VALUE_BYTES}

@@ -4,9 +4,9 @@ use Rattle.std.proofs.Common.{◌≡◌, ◌≢◌, ℕ, ◌<◌, ◌≤◌, ◌
 use Rattle.std.proofs.lemmas.Bool.{cases_Bool, cases_eq, cases_lt, eq-eqb, eqb-true}
 use Rattle.std.proofs.lemmas.List.{length-set, length-map, ext_get_or, get_or-map, get_or_past, get_or_read}
 use Rattle.std.proofs.lemmas.List.Sums.{sum_by-set, count_by-le-length}
-use Rattle.bins.specs.declared.raw_rows.Width.{Width}
-use Rattle.bins.specs.declared.raw_rows.Location.{Location}
-use Rattle.bins.specs.declared.raw_rows.Location.TheVariants.{Vacant, In}
+use Rattle.bins.specs.declared.locations.Width.{Width}
+use Rattle.bins.specs.declared.locations.Location.{Location}
+use Rattle.bins.specs.declared.locations.Location.TheVariants.{Vacant, In}
 use Rattle.bins.specs.KeptRows.{KeptRow, Lists, AreMatched, is_in, is_same_width, nobody, location_at, row_at, row_of, rows_of, with_rows}
 
 abbrev pub weight : Width → Location → ℕ

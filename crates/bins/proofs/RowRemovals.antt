@@ -4,9 +4,9 @@ use Rattle.std.specs.List.{swap_remove}
 use Rattle.std.proofs.lemmas.Bool.{cases_eq, cases_lt}
 use Rattle.std.proofs.lemmas.List.{length-set, length-map, get_or-map, map-set, get_or_default, take-map, take-set-le, set-set}
 use Rattle.std.proofs.lemmas.List.Sums.{sum_by-set, sum_by-swap_remove}
-use Rattle.bins.specs.declared.raw_rows.Width.{Width}
-use Rattle.bins.specs.declared.raw_rows.Location.{Location}
-use Rattle.bins.specs.declared.raw_rows.Location.TheVariants.{Vacant, In}
+use Rattle.bins.specs.declared.locations.Width.{Width}
+use Rattle.bins.specs.declared.locations.Location.{Location}
+use Rattle.bins.specs.declared.locations.Location.TheVariants.{Vacant, In}
 use Rattle.bins.specs.KeptRows.{KeptRow, Lists, AreMatched, nobody, location_at, row_at, row_of, rows_of, with_rows}
 use Rattle.bins.proofs.GapLemmas.{kept_else, kept_moved, one_less}
 use Rattle.bins.proofs.RowLemmas.{weight, not_vacant, apart, same_in, weight_in, reads_with, read_with, inside, strings, strings_by, others_matched}

@@ -2,10 +2,10 @@
 use Rattle.std.proofs.Common.{◌≡◌, ◌≢◌, ℕ, ◌-◌, ◌<◌, List, [], ◌∷◌, ◌++◌, length, get_or, set, refl, sym, ap, subst, ◌∙◌, arith, inl, inr}
 use Rattle.std.specs.List.{swap_remove}
 use Rattle.std.proofs.lemmas.List.{length-map, length-set, length_push, set-get_or}
-use Rattle.bins.specs.declared.raw_rows.TheConstants.{MOST_ROWS}
-use Rattle.bins.specs.declared.raw_rows.Width.{Width}
-use Rattle.bins.specs.declared.raw_rows.Location.{Location}
-use Rattle.bins.specs.declared.raw_rows.Location.TheVariants.{Vacant, In}
+use Rattle.bins.specs.declared.locations.TheConstants.{MOST_ROWS}
+use Rattle.bins.specs.declared.locations.Width.{Width}
+use Rattle.bins.specs.declared.locations.Location.{Location}
+use Rattle.bins.specs.declared.locations.Location.TheVariants.{Vacant, In}
 use Rattle.bins.specs.KeptRows.{KeptRow, Lists, AreMatched, AreRows, kept, location_at, row_at, row_of, rows_of, with_rows, keys_of, values_of}
 use Rattle.bins.proofs.GapLemmas.{one_less}
 use Rattle.bins.proofs.RowLemmas.{widths, not_vacant, apart, rows_with_same, rows_with_other, reads_with}

@@ -5,24 +5,25 @@ use Rattle.std.proofs.lemmas.Bool.{cases_eq, cases_lt}
 use Rattle.std.proofs.lemmas.List.{ext_get_or, get_or_append_left, get_or_push, get_or-take, length-set, length_push}
 use Rattle.std.proofs.lemmas.List.FromFn.{get_or-map-range_with_len, length-map-range_with_len}
 use Rattle.std.proofs.Math.Nat.{mul-le-mul_left}
+use Rattle.bins.specs.declared.width_rows.TheConstants.{FRONT_BYTES}
 use Rattle.bins.specs.KeptRows.{KeptRow, nobody, row_at, row_in}
 use Rattle.bins.specs.Segments.{HoldRows, HoldsSlot, KeepsOthers, part, rows_from, slot}
 use Rattle.bins.proofs.GapLemmas.{kept_else, kept_moved, one_less}
 
 -- the place of a row in its segment
 abbrev pub place : ℕ → ℕ → ℕ → ℕ
-place e w i = (i - i / e * e) * w
+place e w i = FRONT_BYTES + (i - i / e * e) * w
 
 abbrev segment_at : List (List ℕ) → ℕ → List ℕ
 segment_at segments s = get_or segments s []
 
 module _ (e w : ℕ) (some : 0 < e) where
-  pub below_end : (i : ℕ) → place e w i + w ≤ e * w
+  pub below_end : (i : ℕ) → place e w i + w ≤ FRONT_BYTES + e * w
   below_end i =
       let rest : i - i / e * e + 1 ≤ e = omega arith in
       omega (arith, mul-le-mul_left w rest)
 
-  less_apart : (a b : ℕ) → a < b → a * w + w ≤ b * w
+  less_apart : (a b : ℕ) → a < b → FRONT_BYTES + a * w + w ≤ FRONT_BYTES + b * w
   less_apart a b less = let more : a + 1 ≤ b = omega arith in omega (arith, mul-le-mul_left w more)
 
   pub apart_slots : (i j : ℕ) → i ≢ j → i / e ≡ j / e → (place e w i + w ≤ place e w j) ⊎ (place e w j + w ≤ place e w i)

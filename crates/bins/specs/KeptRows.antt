@@ -2,10 +2,10 @@
 use Rattle.std.specs.Prelude.{◌≡◌, ℕ, ◌+◌, ◌<◌, ◌≤◌, ◌%◌, ◌/◌, Bool, false, cond, nat_eq, List, [], length, map, take, drop, count_by, slice_index_or, ⊤}
 use Rattle.bpf_model.specs.declared.limits.TheConstants.{KEY_BYTES, VALUE_BYTES}
 use Rattle.byteorder.specs.Endian.{little_bytes, little_number}
-use Rattle.bins.specs.declared.raw_rows.TheConstants.{MOST_ROWS, VACANT_CODE, WIDTH_CODES}
-use Rattle.bins.specs.declared.raw_rows.Width.{Width}
-use Rattle.bins.specs.declared.raw_rows.Location.{Location}
-use Rattle.bins.specs.declared.raw_rows.Location.TheVariants.{Vacant, In}
+use Rattle.bins.specs.declared.locations.TheConstants.{MOST_ROWS, VACANT_CODE, WIDTH_CODES}
+use Rattle.bins.specs.declared.locations.Width.{Width}
+use Rattle.bins.specs.declared.locations.Location.{Location}
+use Rattle.bins.specs.declared.locations.Location.TheVariants.{Vacant, In}
 
 -- a key and its value, and the position whose location names their row
 pub record KeptRow : Type 0 where

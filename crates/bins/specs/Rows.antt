@@ -1,10 +1,10 @@
 -- The rows of a table in segments, and the room for more of them.
 use Rattle.std.specs.Prelude.{◌≡◌, ℕ, zero, suc, ◌+◌, ◌/◌, ◌<◌, ◌≤◌, ◌-◌, List, [], length, min, slice_index_or, vec_capacity}
 use Rattle.bpf_model.specs.declared.limits.TheConstants.{KEY_BYTES, VALUE_BYTES}
-use Rattle.bins.specs.declared.raw_rows.TheConstants.{MOST_ROWS}
-use Rattle.bins.specs.declared.raw_rows.Width.{Width}
+use Rattle.bins.specs.declared.locations.TheConstants.{MOST_ROWS}
+use Rattle.bins.specs.declared.locations.Width.{Width}
 use Rattle.bins.specs.declared.raw_rows.RawRows.{RawRows}
-use Rattle.bins.specs.declared.raw_rows.TheConstants.{WIDTHS}
+use Rattle.bins.specs.declared.pool.TheConstants.{WIDTHS}
 use Rattle.bins.specs.KeptRows.{AreRows, KeptRow, Lists, keys_of, values_of}
 use Rattle.bins.specs.Segments.{AreFew, KeptWidth, no_width}
 

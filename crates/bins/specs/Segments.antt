@@ -1,8 +1,7 @@
 -- The rows of one width in segments.
 use Rattle.std.specs.Prelude.{◌≡◌, ℕ, ◌+◌, ◌-◌, ◌*◌, ◌/◌, ◌^◌, ◌<◌, ◌≤◌, ◌⊎◌, List, [], length, map, take, drop, slice_index_or}
 use Rattle.std.specs.List.{range_with_len}
-use Rattle.bins.specs.declared.width_rows.TheConstants.{HEAD_BYTES}
-use Rattle.bins.specs.declared.width_rows.TheConstants.{SEGMENT_BYTES}
+use Rattle.bins.specs.declared.width_rows.TheConstants.{FRONT_BYTES, HEAD_BYTES, SEGMENT_BYTES}
 use Rattle.bins.specs.KeptRows.{HoldsRow, KeptRow, row_in}
 
 -- the rows of a width, the most bytes that a key and its value may have in one, the number of segments that they lie in, and
@@ -19,7 +18,7 @@ no_width = record { rows = []; most = 0; segments = 0; limit = 0 }
 
 -- the bytes of a row, if a segment has this many rows of this many bytes
 abbrev pub slot : List (List ℕ) → ℕ → ℕ → ℕ → List ℕ
-slot segments each stride i = take stride (drop ((i - i / each * each) * stride) (slice_index_or segments (i / each) []))
+slot segments each stride i = take stride (drop (FRONT_BYTES + (i - i / each * each) * stride) (slice_index_or segments (i / each) []))
 
 -- the first rows
 abbrev pub rows_from : List (List ℕ) → ℕ → ℕ → ℕ → List KeptRow
@@ -51,7 +50,7 @@ pub record AreSegments (segments : List (List ℕ)) (shift most stride many : �
   pub stride_is : stride ≡ HEAD_BYTES + most
   pub small : 9 ≤ shift
   pub bounded : shift < 64
-  pub shape : 2 ^ shift * stride ≤ SEGMENT_BYTES
+  pub shape : FRONT_BYTES + 2 ^ shift * stride ≤ SEGMENT_BYTES
   pub enough : many ≤ length segments * 2 ^ shift
   pub needed : length segments * 2 ^ shift < many + 2 ^ shift
   pub rows : HoldRows segments (2 ^ shift) stride many

@@ -5,18 +5,22 @@ use bpf_model::NoMemory;
 
 /// A list that can't double grows by this part of its length, if that is granted.
 const PARTS: usize = 16;
-/// A list that needs this many bytes asks for `FAR_BYTES` at once.
+/// A list that gets room in small steps has this many bytes, and if it needs more, `FAR_BYTES` at once. Of lists of many other lengths
+/// glibc would keep some that were freed, and then it couldn't give back what lies before them.
+const STEP_BYTES: usize = 1_056;
+/// A list that doubles asks for `FAR_BYTES` at once if it needs this many bytes.
 const NEAR_BYTES: usize = 16 << 10;
 /// A list of this many bytes is a mapping of its own: the system gives a page of it only when it is touched, and moves pages when it
 /// grows.
 const FAR_BYTES: usize = 256 << 10;
 
-/// Returns for how many more elements of this size a list asks first, which needs room for `more`.
-fn wish(len: usize, more: usize, size: usize) -> usize
+/// Returns for how many more elements of this size a list asks first, which needs room for `more`. If it needs less than `near`
+/// bytes, that is just these.
+fn wish(len: usize, more: usize, size: usize, near: usize) -> usize
     ensures enough { more ≤ result }
 {
     let bytes = len.saturating_add(more).saturating_mul(size);
-    if bytes < NEAR_BYTES || bytes >= FAR_BYTES {
+    if bytes < near || bytes >= FAR_BYTES {
         return more;
     }
     (FAR_BYTES / size.max(1)).saturating_sub(len).max(more)
@@ -29,7 +33,10 @@ fn grow<T: Drop>(list: &mut Vec<T>, size: usize) -> Result<(), NoMemory>
     ensures ok { OnOk result (vec_len list.new < vec_capacity list.new) }
     ensures same { list.new.items ≡ list.old.items }
 {
-    if list.try_reserve(wish(list.len(), 1, size)).is_ok() {
+    if list
+        .try_reserve(wish(list.len(), 1, size, NEAR_BYTES))
+        .is_ok()
+    {
         return Ok(());
     }
     if list.try_reserve_exact(list.len() / PARTS + 1).is_ok() {
@@ -51,6 +58,11 @@ pub(crate) fn make_room<T: Drop>(list: &mut Vec<T>, size: usize) -> Result<(), N
     grow(list, size)
 }
 
+/// Returns for how many elements of this size a list has room that gets it in small steps, at the least.
+pub(crate) fn least_room(size: usize) -> usize {
+    STEP_BYTES / size.max(1)
+}
+
 /// Makes room for this many more elements of this size. Returns `NoMemory` if the request for just these is refused.
 pub(crate) fn make_room_for<T: Drop>(
     list: &mut Vec<T>,
@@ -61,7 +73,9 @@ pub(crate) fn make_room_for<T: Drop>(
     ensures same { list.new.items ≡ list.old.items }
     ensures kept { vec_capacity list.old ≤ vec_capacity list.new }
 {
-    if list.try_reserve_exact(wish(list.len(), more, size)).is_ok() {
+    let wanted = wish(list.len(), more, size, STEP_BYTES);
+    let least = least_room(size).saturating_sub(list.len());
+    if list.try_reserve_exact(wanted.max(least)).is_ok() {
         return Ok(());
     }
     list.try_reserve_exact(more)?;

@@ -1,8 +1,7 @@
 //! Entries in rows of many widths, and where their keys stand: found by chains of their hashes, or by a tree once chains have
 //! become long.
 ghost use Rattle.std.specs.FinMap as map;
-ghost use Rattle.std.specs.Prelude.{◌≡◌, ◌+◌, ◌≤◌, None, OnOk, OnErr, ◌≢◌, ◌<◌, ◌++◌, ◌↔◌, [], ◌∷◌, length, map, HoldsAt, IfOk, IfSome, IfNone, IsTrue};
-ghost use Rattle.std.specs.Int.{from_le_bytes, to_le_bytes, w64};
+ghost use Rattle.std.specs.Prelude.{◌≡◌, ◌+◌, ◌≤◌, None, OnOk, OnErr, ◌≢◌, ◌<◌, ◌++◌, ◌↔◌, [], ◌∷◌, length, map, slice_index, HoldsAt, IfOk, IfSome, IfNone, IsTrue};
 ghost use Rattle.bins.specs.Told.{IsBinCount};
 ghost use Rattle.std.specs.List.{AllWithin, swap_remove};
 ghost use Rattle.bins.specs.Mixed.{mixed};
@@ -23,6 +22,7 @@ use crate::replacement::replace_rows;
 use crate::rows::Rows;
 use crate::told_size::ToldSize;
 use crate::tree::Tree;
+use crate::width_rows::are_same;
 use bpf_model::limits::{KEY_BYTES, VALUE_BYTES};
 use bpf_model::{Key, NoMemory, Value};
 use std::alloc::Global;
@@ -141,7 +141,7 @@ impl HashedBins {
         Ok(())
     }
 
-    /// Sets the value of a key that does not stand where it was found before, if it was.
+    /// Sets the value of a key, and searches for it first.
     #[inline(never)]
     fn put_searched(&mut self, key: &HashedKey<'_>, value: &Value) -> Result<(), NoMemory>
         ensures ok { OnOk result (table_in self.new ≡ map.insert (table_in self.old) key.now value.now) }
@@ -199,11 +199,9 @@ impl Bins for HashedBins {
 
     #[inline(always)]
     fn put(&mut self, key: &HashedKey<'_>, value: &Value) -> Result<(), NoMemory> {
-        match remembered(&self.rows, key) {
-            Some(position) => {
-                self.rows.set_value(position, value.as_slice());
-                Ok(())
-            }
+        let bytes = key.key().as_slice();
+        match self.rows.rewrite(key.guess(), bytes, value.as_slice()) {
+            Some(_) => Ok(()),
             None => self.put_searched(key, value),
         }
     }
@@ -246,40 +244,6 @@ pub(crate) enum Finder {
     Keys(Tree),
 }
 
-/// Returns the word of eight bytes; none if there are more or fewer.
-#[inline(always)]
-fn word_of(bytes: &[u8]) -> Option<u64>
-    ensures word { IfSome result (λ word. word ≡ from_le_bytes w64 bytes.now) }
-    ensures bytes { IfSome result (λ word. to_le_bytes w64 word ≡ bytes.now) }
-{
-    match <[u8; 8]>::try_from(bytes) {
-        Ok(bytes) => Some(u64::from_le_bytes(bytes)),
-        Err(_) => None,
-    }
-}
-
-/// Returns whether these are the same bytes. It is separate, since a search compares at two places.
-#[inline(never)]
-fn are_same_bytes(one: &[u8], other: &[u8]) -> bool
-    ensures { IsTrue result ↔ (one.now ≡ other.now) }
-{
-    one == other
-}
-
-/// Returns whether these are the same bytes. Eight are compared as one word, without a call.
-#[inline(always)]
-fn are_same(one: &[u8], other: &[u8]) -> bool
-    ensures { IsTrue result ↔ (one.now ≡ other.now) }
-{
-    let Some(word) = word_of(one) else {
-        return are_same_bytes(one, other);
-    };
-    let Some(another) = word_of(other) else {
-        return are_same_bytes(one, other);
-    };
-    word == another
-}
-
 /// Where a key was found, and its value there.
 #[derive(Clone, Copy)]
 pub(crate) struct Found<'a> {
@@ -311,6 +275,39 @@ pub(crate) fn remembered(rows: &Rows, key: &HashedKey<'_>) -> Option<usize>
     None
 }
 
+/// Returns the position of the key with this hash, if that isn't the last position of the hash, `end`, nor after it. It is
+/// separate, so that a search which finds its key at once has no loop.
+#[inline(never)]
+fn position_before(index: &Index, rows: &Rows, key: &Key, hash: u64, end: usize) -> Option<usize>
+    requires index { index.now.hashes ≡ map (mixed index.now.seed) rows.now.keys }
+    requires hash { hash ≡ mixed index.now.seed key.now }
+    requires range { end < length index.now.hashes }
+    requires same { slice_index index.now.hashes end ≡ hash }
+    requires lacks { AllWithin (λ k. k ≢ key.now) rows.now.keys end (length rows.now.keys) }
+    ensures bound { IfSome result (λ position. position < length rows.now.keys) }
+    ensures found { IfSome result (HoldsAt (λ k. k ≡ key.now) rows.now.keys) }
+    ensures absent { IfNone result (AllWithin (λ k. k ≢ key.now) rows.now.keys 0 (length rows.now.keys)) }
+{
+    let mut next = index.before(end, hash);
+    while let Some(position) = next {
+        if is_at(rows, position, key.as_slice()) {
+            return Some(position);
+        }
+        next = index.before(position, hash);
+    }
+    None
+}
+
+/// Returns the value at a position. It is separate, since it is seldom needed.
+#[inline(never)]
+fn value_at(rows: &Rows, position: usize) -> &[u8]
+    requires { position < length rows.now.keys }
+    ensures value { result.now ≡ string_at rows.now.values position }
+    ensures fits { length result.now ≤ VALUE_BYTES }
+{
+    rows.value(position)
+}
+
 /// Where the key with this hash is found.
 #[inline(always)]
 fn found_with<'a>(index: &Index, rows: &'a Rows, key: &Key, hash: u64) -> Option<Found<'a>>
@@ -322,15 +319,17 @@ fn found_with<'a>(index: &Index, rows: &'a Rows, key: &Key, hash: u64) -> Option
     ensures fits { IfSome result (λ found. length found.value.now ≤ VALUE_BYTES) }
     ensures absent { IfNone result (AllWithin (λ k. k ≢ key.now) rows.now.keys 0 (length rows.now.keys)) }
 {
-    let mut next = index.last(hash);
-    while let Some(position) = next {
-        let (stored, value) = rows.entry(position);
-        if are_same(stored, key.as_slice()) {
-            return Some(Found { position, value });
-        }
-        next = index.before(position, hash);
+    let last = index.last(hash)?;
+    let (stored, value) = rows.entry(last);
+    if are_same(stored, key.as_slice()) {
+        return Some(Found {
+            position: last,
+            value,
+        });
     }
-    None
+    let position = position_before(index, rows, key, hash, last)?;
+    let value = value_at(rows, position);
+    Some(Found { position, value })
 }
 
 /// Where the tree finds a key.

@@ -1,154 +1,35 @@
 //! Rows in segments, and for each position the location of its row. A row names its position too. So when a row goes, the
 //! last one of its width takes the gap, and the position of that last one gets the new location.
-ghost use Rattle.std.specs.Prelude.{◌≡◌, ℕ, ◌+◌, ◌-◌, ◌<◌, ◌≤◌, ◌^◌, ◌++◌, [], ◌∷◌, length, set, IfOk, IsTrue, OnOk, OnErr, vec_capacity};
+ghost use Rattle.std.specs.Prelude.{◌≡◌, ◌+◌, ◌-◌, ◌<◌, ◌≤◌, ◌++◌, [], ◌∷◌, length, set, IfSome, IfNone, IsTrue, OnOk, OnErr, ◌↔◌};
 ghost use Rattle.std.specs.List.{swap_remove};
-ghost use Rattle.bins.specs.KeptRows.{kept, nobody, location_at, row_at, string_at, with_rows, IsNear};
-ghost use Rattle.bins.specs.Rows.{AreEmpty, AreIn, AreWider, AreWidths, FitIn, IsKept, IsRoomy, keys_in, lists_in, rows_in, segments_for, used, values_in, width_at};
-ghost use Rattle.bins.specs.declared.raw_rows.Location.TheVariants.{Vacant};
+ghost use Rattle.bins.specs.KeptRows.{kept, nobody, location_at, row_at, string_at, with_rows};
+ghost use Rattle.bins.specs.Rows.{AreIn, AreWidths, FitIn, IsKept, IsRoomy, keys_in, lists_in, rows_in, used, values_in, width_at};
+ghost use Rattle.bins.specs.declared.locations.Location.TheVariants.{In, Vacant};
 
-use crate::growth::make_room_for;
-use crate::width_rows::{Segment, WidthRows};
+use crate::growth::{least_room, make_room_for};
+use crate::locations::{Location, LocationWord, MOST_ROWS, Width};
+use crate::pool::{
+    SEGMENT_HEAD, WIDTHS, add_segments, count_used, open_widths, touched_past, wanted_for, widen,
+};
+use crate::width_rows::{Segment, WidthRows, are_same};
 use bpf_model::limits::{KEY_BYTES, VALUE_BYTES};
 use bpf_model::{Key, NoMemory};
 use std::alloc::Global;
-use std::marker::Model;
 
-/// The number of widths.
-pub const WIDTHS: usize = 17;
-/// What an untouched segment takes: the allocator writes before it, into one page.
-const SEGMENT_HEAD: usize = 4_096;
 /// What room for a location takes, with its share of the lists of segments.
 const LOCATION_BYTES: usize = 10;
 
 /// The locations of rows, and the rows.
 #[derive(Drop)]
 pub(crate) struct RawRows {
+    // The width of the row that was added last.
+    latest: Width,
     locations: Vec<LocationWord>,
     widths: Vec<WidthRows>,
     free: Vec<Segment>,
     room: usize,
     // The bytes of segments that were touched so far, and a page for each segment.
     touched: usize,
-}
-
-/// Makes lists for the rows of each width. The numbers are the fewest and the most bytes of a key and a value together; a
-/// segment holds two to the power of the last number of such rows. Returns `NoMemory` if the request for the list's memory
-/// is refused.
-fn open_widths(alloc: Global) -> Result<Vec<WidthRows>, NoMemory>
-    ensures widths { IfOk result (λ widths. AreWidths widths.items) }
-    ensures empty { IfOk result (λ widths. AreEmpty widths.items) }
-{
-    let mut widths = Vec::with_capacity(alloc, WIDTHS)?;
-    widths.push_reserved(WidthRows::new(alloc, 0, 18, 14));
-    widths.push_reserved(WidthRows::new(alloc, 19, 32, 13));
-    widths.push_reserved(WidthRows::new(alloc, 33, 48, 13));
-    widths.push_reserved(WidthRows::new(alloc, 49, 64, 12));
-    widths.push_reserved(WidthRows::new(alloc, 65, 80, 12));
-    widths.push_reserved(WidthRows::new(alloc, 81, 100, 12));
-    widths.push_reserved(WidthRows::new(alloc, 101, 128, 11));
-    widths.push_reserved(WidthRows::new(alloc, 129, 160, 11));
-    widths.push_reserved(WidthRows::new(alloc, 161, 200, 11));
-    widths.push_reserved(WidthRows::new(alloc, 201, 248, 11));
-    widths.push_reserved(WidthRows::new(alloc, 249, 312, 10));
-    widths.push_reserved(WidthRows::new(alloc, 313, 392, 10));
-    widths.push_reserved(WidthRows::new(alloc, 393, 488, 10));
-    widths.push_reserved(WidthRows::new(alloc, 489, 608, 9));
-    widths.push_reserved(WidthRows::new(alloc, 609, 752, 9));
-    widths.push_reserved(WidthRows::new(alloc, 753, 912, 9));
-    widths.push_reserved(WidthRows::new(alloc, 913, 1_088, 9));
-    Ok(widths)
-}
-
-/// Returns how many segments there are at least if this many positions have room. Rows of one width leave less than a segment
-/// unused, and a segment holds 512 rows or more, so any mix of widths fits.
-fn wanted_for(positions: usize) -> usize
-    ensures value { result ≡ segments_for positions }
-{
-    positions.min(positions / 512 + (WIDTHS + 1))
-}
-
-/// Returns how many segments hold rows of a width.
-#[inline(always)]
-fn segments_at(widths: &Vec<WidthRows>, step: usize) -> usize
-    ensures value { result ≡ (width_at widths.now.items step).segments }
-{
-    if step < widths.len() {
-        let rows = &widths[step];
-        return rows.segments();
-    }
-    0
-}
-
-/// Returns how many segments hold rows.
-fn count_used(widths: &Vec<WidthRows>) -> usize
-    requires bounded { used widths.now.items < 2 ^ 64 }
-    ensures value { result ≡ used widths.now.items }
-{
-    let mut many = 0;
-    for step in 0..WIDTHS {
-        many += segments_at(widths, step);
-    }
-    many
-}
-
-/// Makes room in each list for the segments of this many rows. Returns `NoMemory` if a request for it is refused.
-fn widen(widths: &mut Vec<WidthRows>, many: usize) -> Result<(), NoMemory>
-    requires few { many ≤ MOST_ROWS }
-    ensures wider { AreWider widths.old.items widths.new.items }
-    ensures ok { OnOk result ((step : ℕ) → step < length widths.new.items → many ≤ (width_at widths.new.items step).limit) }
-{
-    for step in 0..widths.len() {
-        let rows = &mut widths[step];
-        rows.reserve(many)?;
-    }
-    Ok(())
-}
-
-/// Adds free segments at the end until there are `wanted` of them together with those that hold rows. Returns `NoMemory` if a
-/// request is refused.
-fn append_segments(free: &mut Vec<Segment>, used: usize, wanted: usize) -> Result<(), NoMemory>
-    requires bounded { wanted ≤ MOST_ROWS }
-    requires pool { used + length free.old.items ≤ vec_capacity free.old }
-    ensures pool { used + length free.new.items ≤ vec_capacity free.new }
-    ensures more { length free.old.items ≤ length free.new.items }
-    ensures ok { OnOk result (wanted ≤ used + length free.new.items) }
-{
-    let alloc = *free.allocator();
-    let many = used + free.len();
-    if free.capacity() < wanted {
-        free.try_reserve(wanted - free.len())?;
-    }
-    for _count in many..wanted {
-        free.push_reserved(Segment::new(alloc)?);
-    }
-    Ok(())
-}
-
-/// Does the same, but puts the new segments first: so rows take those that were touched before, which lie at the end.
-fn add_segments(free: &mut Vec<Segment>, used: usize, wanted: usize) -> Result<(), NoMemory>
-    requires bounded { wanted ≤ MOST_ROWS }
-    requires pool { used + length free.old.items ≤ vec_capacity free.old }
-    ensures pool { used + length free.new.items ≤ vec_capacity free.new }
-    ensures more { length free.old.items ≤ length free.new.items }
-    ensures ok { OnOk result (wanted ≤ used + length free.new.items) }
-{
-    let before = free.len();
-    let added = append_segments(free, used, wanted);
-    let new = free.len() - before;
-    free.rotate_right(new);
-    added
-}
-
-/// Returns what the segments after the first `kept` take.
-fn touched_past(free: &[Segment], kept: usize) -> usize {
-    let mut bytes: usize = 0;
-    for at in kept..free.len() {
-        let segment = &free[at];
-        bytes = bytes
-            .saturating_add(SEGMENT_HEAD)
-            .saturating_add(segment.touched());
-    }
-    bytes
 }
 
 impl RawRows {
@@ -159,6 +40,7 @@ impl RawRows {
         ensures values { values_in result ≡ [] }
     {
         RawRows {
+            latest: Width { step: 0 },
             locations: Vec::new(alloc),
             widths: Vec::new(alloc),
             free: Vec::new(alloc),
@@ -290,6 +172,54 @@ impl RawRows {
         rows.len()
     }
 
+    /// Returns the owner of a row.
+    #[inline(always)]
+    fn owner_in(&self, width: Width, at: usize) -> usize
+        requires { at < length (rows_in self.now width) }
+        ensures value { result ≡ (row_at (rows_in self.now width) at).owner }
+    {
+        let rows = &self.widths[width.step];
+        rows.owner(at)
+    }
+
+    /// Returns whether all rows have the width of the latest.
+    #[inline(always)]
+    fn has_line(&self) -> bool
+        ensures all { IsTrue result → length (rows_in self.now self.now.latest) ≡ length self.now.locations.items }
+    {
+        let step = self.latest.step;
+        if step >= self.widths.len() {
+            return false;
+        }
+        let rows = &self.widths[step];
+        rows.len() == self.locations.len()
+    }
+
+    /// Returns whether all rows have one width and this position owns the row at the same place among them.
+    #[inline(always)]
+    fn is_in_line(&self, position: usize) -> bool
+        requires rows { AreIn self.now }
+        requires range { position < length self.now.locations.items }
+        ensures location { IsTrue result → location_at self.now.locations.items position ≡ In self.now.latest position }
+    {
+        self.has_line() && self.owner_in(self.latest, position) == position
+    }
+
+    /// Returns the location of a position. If all rows have one width, it mostly follows from the row itself. Then a search
+    /// doesn't wait for the list of locations before it reads the row.
+    #[inline(always)]
+    fn location(&self, position: usize) -> Location
+        requires rows { AreIn self.now }
+        requires range { position < length self.now.locations.items }
+        ensures value { result ≡ location_at self.now.locations.items position }
+    {
+        if self.is_in_line(position) {
+            return Location::In(self.latest, position);
+        }
+        let word = &self.locations[position];
+        word.get()
+    }
+
     /// Returns the key and the value at a position.
     #[inline(always)]
     pub(crate) fn entry(&self, position: usize) -> (&[u8], &[u8])
@@ -300,8 +230,7 @@ impl RawRows {
         ensures key_fits { length result.0.now ≤ KEY_BYTES }
         ensures value_fits { length result.1.now ≤ VALUE_BYTES }
     {
-        let word = &self.locations[position];
-        match word.get() {
+        match self.location(position) {
             Location::Vacant => (&[], &[]),
             Location::In(width, at) => self.entry_in(width, at),
         }
@@ -320,8 +249,7 @@ impl RawRows {
         ensures room { IsRoomy self.new }
         ensures same { self.new.room ≡ self.old.room }
     {
-        let word = &self.locations[position];
-        if let Location::In(width, at) = word.get() {
+        if let Location::In(width, at) = self.location(position) {
             let owner = self.remove_in(width, at);
             self.locations[owner] = LocationWord::new(Location::In(width, at));
             self.locations[position] = LocationWord::new(Location::Vacant);
@@ -365,6 +293,7 @@ impl RawRows {
         let at = self.len_in(width);
         self.add_in(width, position, key, value);
         self.locations[position] = LocationWord::new(Location::In(width, at));
+        self.latest = width;
     }
 
     /// Gives a position a new row, with the same key and this value.
@@ -397,6 +326,16 @@ impl RawRows {
         rows.suits(rows.entry(at).0.len() + bytes.len())
     }
 
+    /// Returns whether a width is the narrowest for this many bytes of a key and a value.
+    #[inline(always)]
+    fn suits(&self, width: Width, bytes: usize) -> bool
+        requires { width.step < length self.now.widths.items }
+        ensures fit { IsTrue result → bytes ≤ (width_at self.now.widths.items width.step).most }
+    {
+        let rows = &self.widths[width.step];
+        rows.suits(bytes)
+    }
+
     /// Sets the value of a position. If its row stays as wide, the value is written in place.
     #[inline(always)]
     pub(crate) fn set_value(&mut self, position: usize, bytes: &[u8])
@@ -410,13 +349,95 @@ impl RawRows {
         ensures room { IsRoomy self.new }
         ensures same { self.new.room ≡ self.old.room }
     {
-        let word = &self.locations[position];
-        match word.get() {
+        match self.location(position) {
             Location::In(width, at) if self.stays(width, at, bytes) => {
                 self.set_value_in(width, at, bytes);
             }
             _ => self.refill(position, bytes),
         }
+    }
+
+    /// Returns whether a row has this key.
+    #[inline(always)]
+    fn has_key(&self, width: Width, at: usize, key: &[u8]) -> bool
+        requires { at < length (rows_in self.now width) }
+        ensures exact { IsTrue result ↔ ((row_at (rows_in self.now width) at).key ≡ key.now) }
+    {
+        let rows = &self.widths[width.step];
+        are_same(rows.key(at), key)
+    }
+
+    /// Sets the value of the row with this key if that stays as wide. Returns its position if it did.
+    #[inline(always)]
+    fn overwrite(&mut self, width: Width, at: usize, key: &[u8], bytes: &[u8]) -> Option<usize>
+        requires rows { AreIn self.old }
+        requires range { at < length (rows_in self.old width) }
+        requires key { (row_at (rows_in self.old width) at).key ≡ key.now }
+        requires room { IsRoomy self.old }
+        requires fits { length bytes.now ≤ VALUE_BYTES }
+        ensures rows { AreIn self.new }
+        ensures room { IsRoomy self.new }
+        ensures range { IfSome result (λ position. position < length self.old.locations.items) }
+        ensures keys { keys_in self.new ≡ keys_in self.old }
+        ensures key { IfSome result (λ position. string_at (keys_in self.old) position ≡ key.now) }
+        ensures values { IfSome result (λ position. values_in self.new ≡ set (values_in self.old) position bytes.now) }
+        ensures not { IfNone result (self.new ≡ self.old) }
+    {
+        if self.suits(width, key.len() + bytes.len()) {
+            let position = self.owner_in(width, at);
+            self.set_value_in(width, at, bytes);
+            return Some(position);
+        }
+        None
+    }
+
+    /// Does what `rewrite` does, for the row that the location names.
+    #[inline(never)]
+    fn rewrite_listed(&mut self, position: usize, key: &[u8], bytes: &[u8]) -> Option<usize>
+        requires rows { AreIn self.old }
+        requires room { IsRoomy self.old }
+        requires fits { length bytes.now ≤ VALUE_BYTES }
+        ensures rows { AreIn self.new }
+        ensures room { IsRoomy self.new }
+        ensures range { IfSome result (λ found. found < length self.old.locations.items) }
+        ensures keys { keys_in self.new ≡ keys_in self.old }
+        ensures key { IfSome result (λ found. string_at (keys_in self.old) found ≡ key.now) }
+        ensures values { IfSome result (λ found. values_in self.new ≡ set (values_in self.old) found bytes.now) }
+        ensures not { IfNone result (self.new ≡ self.old) }
+    {
+        if position >= self.locations.len() {
+            return None;
+        }
+        match self.location(position) {
+            Location::In(width, at) if self.has_key(width, at, key) => {
+                self.overwrite(width, at, key, bytes)
+            }
+            _ => None,
+        }
+    }
+
+    /// Sets the value of a key if its row is found at once by this position, and stays as wide. Returns the key's position if it
+    /// did.
+    #[inline(always)]
+    pub(crate) fn rewrite(&mut self, position: usize, key: &[u8], bytes: &[u8]) -> Option<usize>
+        requires rows { AreIn self.old }
+        requires room { IsRoomy self.old }
+        requires fits { length bytes.now ≤ VALUE_BYTES }
+        ensures rows { AreIn self.new }
+        ensures room { IsRoomy self.new }
+        ensures range { IfSome result (λ found. found < length self.old.locations.items) }
+        ensures keys { keys_in self.new ≡ keys_in self.old }
+        ensures key { IfSome result (λ found. string_at (keys_in self.old) found ≡ key.now) }
+        ensures values { IfSome result (λ found. values_in self.new ≡ set (values_in self.old) found bytes.now) }
+        ensures not { IfNone result (self.new ≡ self.old) }
+    {
+        if position < self.locations.len()
+            && self.has_line()
+            && self.has_key(self.latest, position, key)
+        {
+            return self.overwrite(self.latest, position, key, bytes);
+        }
+        self.rewrite_listed(position, key, bytes)
     }
 
     /// Adds a vacant position after the others.
@@ -624,15 +645,31 @@ impl RawRows {
     /// Gives memory back to the allocator if there are few entries beside those that have room, or none.
     #[inline(always)]
     fn give_back(&mut self)
+        requires rows { AreIn self.old }
         requires room { IsRoomy self.old }
         ensures locations { self.new.locations.items ≡ self.old.locations.items }
         ensures rows { lists_in self.new ≡ lists_in self.old }
         ensures room { IsRoomy self.new }
     {
         let few = self.locations.len();
-        if (self.room >= 64 && few < self.room / 4) || (self.room >= 16 && few == 0) {
+        if self.room >= 16 && few == 0 {
+            self.clear();
+        } else if self.room >= 64 && few < self.room / 4 {
             self.shrink();
         }
+    }
+
+    /// Gives all memory back to the allocator, if there is no position. Small lists that stayed would keep the allocator from
+    /// giving back what lies before them.
+    #[inline(never)]
+    fn clear(&mut self)
+        requires rows { AreIn self.old }
+        requires none { length self.old.locations.items ≡ 0 }
+        ensures locations { self.new.locations.items ≡ self.old.locations.items }
+        ensures rows { lists_in self.new ≡ lists_in self.old }
+        ensures room { IsRoomy self.new }
+    {
+        *self = RawRows::new(*self.locations.allocator());
     }
 
     /// Gives back to the allocator what no position may come to need: free segments, and the end of the list of locations.
@@ -649,75 +686,8 @@ impl RawRows {
         let kept = wanted_for(room).saturating_sub(used);
         self.touched = self.touched.saturating_sub(touched_past(&self.free, kept));
         self.free.truncate(kept);
-        self.locations.shrink_to(room);
+        let least = least_room(size_of::<LocationWord>());
+        self.locations.shrink_to(room.max(least));
         self.room = room;
-    }
-}
-
-/// The most positions that there may be: more than any memory has room for.
-pub const MOST_ROWS: usize = 1 << 56;
-/// The number of widths that a location can tell apart.
-pub const WIDTH_CODES: u64 = 32;
-/// Stands in a location instead of a width if there is no row.
-pub const VACANT_CODE: u64 = 31;
-
-/// The width of a row: its place among all widths, the narrowest first.
-#[derive(Clone, Copy, PartialEq, Eq)]
-pub struct Width {
-    /// The place.
-    pub step: usize,
-}
-
-/// The location of a position's row.
-#[derive(Clone, Copy)]
-pub enum Location {
-    /// There is no row.
-    Vacant,
-    /// The row is at this position among the rows of this width.
-    In(Width, usize),
-}
-
-/// A location in eight bytes.
-#[derive(Drop)]
-pub struct LocationWord {
-    word: u64,
-}
-
-impl Model for LocationWord {
-    ghost use Rattle.bins.specs.declared.raw_rows.Location.{Location};
-    ghost use Rattle.bins.specs.KeptRows.{location_of};
-
-    ghost Value = { Location };
-
-    ghost view = { λ word. location_of word.word };
-}
-
-impl LocationWord {
-    /// Returns the word of a location.
-    #[inline(always)]
-    pub(crate) fn new(location: Location) -> LocationWord
-        requires { IsNear location }
-        ensures { result ≡ location }
-    {
-        let word = match location {
-            Location::Vacant => VACANT_CODE,
-            Location::In(width, at) => at as u64 * WIDTH_CODES + width.step as u64,
-        };
-        LocationWord { word }
-    }
-
-    /// Returns the location.
-    #[inline(always)]
-    pub(crate) fn get(&self) -> Location
-        ensures value { result ≡ self.now }
-    {
-        let step = self.word % WIDTH_CODES;
-        if step == VACANT_CODE {
-            return Location::Vacant;
-        }
-        let width = Width {
-            step: step as usize,
-        };
-        Location::In(width, (self.word / WIDTH_CODES) as usize)
     }
 }

@@ -1,9 +1,10 @@
 //! The keys and values of entries, in rows of many widths.
-ghost use Rattle.std.specs.Prelude.{◌≡◌, ◌+◌, ◌<◌, ◌≤◌, ◌++◌, [], ◌∷◌, length, set, OnOk};
+ghost use Rattle.std.specs.Prelude.{◌≡◌, ◌+◌, ◌<◌, ◌≤◌, ◌++◌, [], ◌∷◌, length, set, HoldsAt, IfNone, IfSome, OnOk};
 ghost use Rattle.std.specs.List.{swap_remove};
 ghost use Rattle.bins.specs.KeptRows.{string_at};
 
-use crate::raw_rows::{MOST_ROWS, RawRows};
+use crate::locations::MOST_ROWS;
+use crate::raw_rows::RawRows;
 use bpf_model::NoMemory;
 use bpf_model::limits::{KEY_BYTES, VALUE_BYTES};
 use std::alloc::Global;
@@ -145,6 +146,20 @@ impl Rows {
         ensures values { self.new.values ≡ set self.old.values position bytes.now }
     {
         self.raw.set_value(position, bytes);
+    }
+
+    /// Sets the value of a key if its row is found at once by this position, and stays as wide. Returns the key's position if it
+    /// did. Takes no memory.
+    #[inline(always)]
+    pub(crate) fn rewrite(&mut self, position: usize, key: &[u8], bytes: &[u8]) -> Option<usize>
+        requires fits { length bytes.now ≤ VALUE_BYTES }
+        ensures range { IfSome result (λ found. found < length self.old.keys) }
+        ensures found { IfSome result (HoldsAt (λ k. k ≡ key.now) self.old.keys) }
+        ensures keys { self.new.keys ≡ self.old.keys }
+        ensures values { IfSome result (λ found. self.new.values ≡ set self.old.values found bytes.now) }
+        ensures not { IfNone result (self.new ≡ self.old) }
+    {
+        self.raw.rewrite(position, key, bytes)
     }
 
     /// Adds an entry after the others. Takes no memory.

@@ -1,6 +1,7 @@
 //! The rows of one width, side by side in segments. All segments but the last are full. A segment is memory of a fixed size for
 //! rows of any one width. A row has the position whose location names it, and a key and its value, each after its length.
-ghost use Rattle.std.specs.Prelude.{◌≡◌, ◌≢◌, ℕ, ◌+◌, ◌-◌, ◌*◌, ◌/◌, ◌<◌, ◌≤◌, ◌^◌, ◌++◌, ◌∷◌, [], length, set, IsTrue, OnOk, vec_capacity, drop};
+ghost use Rattle.std.specs.Prelude.{◌≡◌, ◌≢◌, ◌↔◌, IfSome, ℕ, ◌+◌, ◌-◌, ◌*◌, ◌/◌, ◌<◌, ◌≤◌, ◌^◌, ◌++◌, ◌∷◌, [], length, set, IsTrue, OnOk, vec_capacity, drop};
+ghost use Rattle.std.specs.Int.{from_le_bytes, to_le_bytes, w64};
 ghost use Rattle.std.specs.List.{swap_remove};
 ghost use Rattle.bins.specs.KeptRows.{kept, nobody, row_at, HoldsRow, row_in, key_in, number, value_in, word_of};
 ghost use Rattle.bins.specs.Segments.{AreFew, HoldRows, HoldsSlot, IsClosed, IsOpened, IsSameBut, KeptWidth, slot, KeepsAll, KeepsOthers, part};
@@ -15,20 +16,20 @@ use std::marker::Model;
 #[inline(always)]
 fn place_of(at: usize, shift: u32, stride: usize) -> (usize, usize)
     requires bounded { shift < 64 }
-    requires shape { 2 ^ shift * stride ≤ SEGMENT_BYTES }
+    requires shape { FRONT_BYTES + 2 ^ shift * stride ≤ SEGMENT_BYTES }
     ensures index { result.0 ≡ at / 2 ^ shift }
-    ensures start { result.1 ≡ (at - at / 2 ^ shift * 2 ^ shift) * stride }
+    ensures start { result.1 ≡ FRONT_BYTES + (at - at / 2 ^ shift * 2 ^ shift) * stride }
     ensures range { result.1 + stride ≤ SEGMENT_BYTES }
 {
     let index = at >> shift;
-    (index, (at - (index << shift)) * stride)
+    (index, FRONT_BYTES + (at - (index << shift)) * stride)
 }
 
 /// Returns the bytes of a row.
 #[inline(always)]
 fn slot_of(segments: &Vec<Segment>, at: usize, shift: u32, stride: usize) -> &[u8]
     requires bounded { shift < 64 }
-    requires shape { 2 ^ shift * stride ≤ SEGMENT_BYTES }
+    requires shape { FRONT_BYTES + 2 ^ shift * stride ≤ SEGMENT_BYTES }
     requires holds { HoldsSlot (slot segments.now.items (2 ^ shift) stride at) stride }
     ensures value { result.now ≡ slot segments.now.items (2 ^ shift) stride at }
 {
@@ -41,7 +42,7 @@ fn slot_of(segments: &Vec<Segment>, at: usize, shift: u32, stride: usize) -> &[u
 #[inline(always)]
 fn copy_row(segments: &mut Vec<Segment>, last: usize, at: usize, shape: (u32, usize))
     requires bounded { shape.0 < 64 }
-    requires shape { 2 ^ shape.0 * shape.1 ≤ SEGMENT_BYTES }
+    requires shape { FRONT_BYTES + 2 ^ shape.0 * shape.1 ≤ SEGMENT_BYTES }
     requires before { at ≤ last }
     requires end { last / 2 ^ shape.0 + 1 ≡ length segments.old.items }
     requires holds { HoldRows segments.old.items (2 ^ shape.0) shape.1 (last + 1) }
@@ -103,6 +104,40 @@ fn close_slot(segments: &mut Vec<Segment>, free: &mut Vec<Segment>, last: usize,
     }
 }
 
+/// Returns the word of eight bytes; none if there are more or fewer.
+#[inline(always)]
+fn whole_word(bytes: &[u8]) -> Option<u64>
+    ensures word { IfSome result (λ word. word ≡ from_le_bytes w64 bytes.now) }
+    ensures bytes { IfSome result (λ word. to_le_bytes w64 word ≡ bytes.now) }
+{
+    match <[u8; 8]>::try_from(bytes) {
+        Ok(bytes) => Some(u64::from_le_bytes(bytes)),
+        Err(_) => None,
+    }
+}
+
+/// Returns whether these are the same bytes. It is separate, since a search compares at two places.
+#[inline(never)]
+fn are_same_bytes(one: &[u8], other: &[u8]) -> bool
+    ensures { IsTrue result ↔ (one.now ≡ other.now) }
+{
+    one == other
+}
+
+/// Returns whether these are the same bytes. Eight are compared as one word, without a call.
+#[inline(always)]
+pub(crate) fn are_same(one: &[u8], other: &[u8]) -> bool
+    ensures { IsTrue result ↔ (one.now ≡ other.now) }
+{
+    let Some(word) = whole_word(one) else {
+        return are_same_bytes(one, other);
+    };
+    let Some(another) = whole_word(other) else {
+        return are_same_bytes(one, other);
+    };
+    word == another
+}
+
 /// Rows of a width.
 #[derive(Drop)]
 pub struct WidthRows {
@@ -136,7 +171,7 @@ impl WidthRows {
     pub(crate) fn new(alloc: Global, least: usize, most: usize, shift: u32) -> WidthRows
         requires small { 9 ≤ shift }
         requires bounded { shift < 64 }
-        requires shape { 2 ^ shift * (HEAD_BYTES + most) ≤ SEGMENT_BYTES }
+        requires shape { FRONT_BYTES + 2 ^ shift * (HEAD_BYTES + most) ≤ SEGMENT_BYTES }
         ensures rows { result.rows ≡ [] }
         ensures most { result.most ≡ most }
         ensures segments { result.segments ≡ 0 }
@@ -194,6 +229,26 @@ impl WidthRows {
     {
         let row = slot_of(&self.segments, at, self.shift, self.stride);
         (key_of(row), value_of(row))
+    }
+
+    /// Returns the key of a row.
+    #[inline(always)]
+    pub(crate) fn key(&self, at: usize) -> &[u8]
+        requires { at < length self.now.rows }
+        ensures value { result.now ≡ (row_at self.now.rows at).key }
+    {
+        let row = slot_of(&self.segments, at, self.shift, self.stride);
+        key_of(row)
+    }
+
+    /// Returns the position whose location names a row.
+    #[inline(always)]
+    pub(crate) fn owner(&self, at: usize) -> usize
+        requires { at < length self.now.rows }
+        ensures value { result ≡ (row_at self.now.rows at).owner }
+    {
+        let row = slot_of(&self.segments, at, self.shift, self.stride);
+        owner_of(row)
     }
 
     /// Sets the value of a row.
@@ -306,8 +361,11 @@ impl WidthRows {
     }
 }
 
-/// The number of bytes of a segment: 512 of the longest rows.
-pub const SEGMENT_BYTES: usize = 564_224;
+/// A segment's rows begin after this many bytes. If the system maps memory for a segment, the allocator takes the first 16 bytes
+/// of a page. So the first row begins at a line of the cache, and short rows, of 32 bytes, lie two in a line.
+pub const FRONT_BYTES: usize = 48;
+/// The number of bytes of a segment: those, and 512 of the longest rows.
+pub const SEGMENT_BYTES: usize = 564_272;
 
 /// Bytes with room for `SEGMENT_BYTES`. It is only as long as rows needed so far, so nothing beyond is touched.
 #[derive(Drop)]

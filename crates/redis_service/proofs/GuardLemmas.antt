@@ -1,5 +1,5 @@
 -- A command of a client that isn't authenticated calls nothing, and lets it in only by the right password.
-use Rattle.std.proofs.Common.{◌≡◌, ℕ, ◌⊎◌, inl, inr, List, [], Bool, true, false, ◌||◌, Option, Some, None, is_none, Result, Ok, refl, sym, ap, ◌∙◌, if◌then◌else◌}
+use Rattle.std.proofs.Common.{◌≡◌, ℕ, inl, inr, List, Bool, true, false, ◌||◌, Option, Some, None, is_none, Result, Ok, refl, sym, ap, ◌∙◌, if◌then◌else◌}
 use Rattle.std.proofs.lemmas.Slice.Eq.{bytes_eq-Decides}
 use Rattle.bin_stripes.specs.Passes.{PassState}
 use Rattle.redis_commands.specs.Commands.{Asked, ConnectionAsked, Fault}
@@ -9,7 +9,7 @@ use Rattle.redis_commands.specs.Limits.{IsOfConnection}
 use Rattle.redis_service.specs.declared.talk.Showing.{Showing}
 use Rattle.redis_service.specs.declared.talk.Showing.TheVariants.{Right, Wrong, Missing}
 use Rattle.redis_service.specs.States.{TalkState, is_authenticated, is_right, showing, reset, let_in}
-use Rattle.redis_service.specs.Connections.{AnswersConnection, AnswersHello, Greets, LetsIn, LetsInBy, Renames, Says}
+use Rattle.redis_service.specs.Connections.{AnswersConnection, AnswersHello, Greets, LetsIn, LetsInBy, Renames}
 use Rattle.redis_service.specs.Commands.{AnswersCommand, Guards, shown_by}
 
 -- no call was made, and who is authenticated now has shown the password

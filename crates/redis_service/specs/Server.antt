@@ -1,5 +1,5 @@
 -- What the server tells of itself.
-use Rattle.std.specs.Prelude.{ℕ, ◌*◌, ◌||◌, Bool, List, [], ◌∷◌, ◌++◌, flat_map, count_by, codes, decimal, Option, Some, None, is_some, if◌then◌else◌}
+use Rattle.std.specs.Prelude.{ℕ, ◌*◌, ◌||◌, Bool, List, ◌++◌, flat_map, count_by, codes, decimal, Option, Some, None, is_some, if◌then◌else◌}
 use Rattle.std.specs.Str.{str_eq_ignore_ascii_case}
 use Rattle.resp.specs.Replies.{array_head, value_bytes}
 use Rattle.redis_service.specs.Texts.{text_of}

@@ -1,4 +1,4 @@
-use Rattle.std.proofs.Common.{◌≡◌, ◌≢◌, ◌<◌, ℕ, List, [], true, false, length, refl, get_or, sym, ◌∙◌, arith}
+use Rattle.std.proofs.Common.{◌≡◌, ◌≢◌, ◌<◌, ℕ, List, [], true, false, length, get_or, sym, ◌∙◌, arith}
 use Rattle.std.proofs.lemmas.List.{get_or_default}
 use Rattle.bins.proofs.HashSearch.{as_many, past, past_all}
 use Rattle.bins.proofs.hashed_bins.found_with.Goals as goal
@@ -6,52 +6,19 @@ use Rattle.bins.proofs.hashed_bins.found_with.Goals as goal
 never : false ≡ true → ⊥
 never e = cc
 
--- from behind all keys
-pub loop-next-init : goal.loop-next-init
-loop-next-init c = record {
-  end = length c.args.index.now.hashes;
-  bound = omega (arith, as_many _ _ _ c.requires.index);
-  last = c.last-next.ensures.value;
-  behind = λ j d low high. absurd (omega (arith, low, high, as_many _ _ _ c.requires.index));
-}
+-- no position has the hash
+pub returns-in_err-last-clause-absent : goal.returns-in_err-last-clause-absent
+returns-in_err-last-clause-absent c = rw c.from_residual.ensures
+    (past_all _ _ _ c.requires.index c.args.key.now c.args.hash c.requires.hash (length c.args.index.now.hashes)
+    (λ j d low high. absurd (omega (arith, low, high, as_many _ _ _ c.requires.index))) c.in_err-last.ensures.value)
 
--- the position is that of a key
-pub entry-requires : goal.entry-requires
-entry-requires c = let last = rw c.in-Some.is at c.loop-next.invariant.last in omega (arith, last.0, c.loop-next.invariant.bound)
-
-pub returns-then-are_same : goal.returns-then-are_same
-returns-then-are_same c =
-    let last = rw c.in-Some.is at c.loop-next.invariant.last in
-    let inside : c.in-Some.position < length c.args.rows.now.keys = omega (arith, last.0, c.loop-next.invariant.bound) in
-    record {
-      bound = inside;
-      found = λ d. get_or_default c.args.rows.now.keys c.in-Some.position d [] inside ∙ sym c.entry.ensures.key ∙ c.if-are_same.ensures.0 refl ∙ c.as_slice.ensures.value;
-      value = c.entry.ensures.value;
-      fits = c.entry.ensures.fits;
-      absent = tt;
-    }
-
-pub before-next-requires : goal.before-next-requires
-before-next-requires c =
-    let last = rw c.in-Some.is at c.loop-next.invariant.last in
-    record { range = omega (arith, last.0, c.loop-next.invariant.bound, as_many _ _ _ c.requires.index); same = last.1 }
-
--- it is another key, and so are those behind it
-pub loop-next-preserved : goal.loop-next-preserved
-loop-next-preserved c =
-    let last = rw c.in-Some.is at c.loop-next.invariant.last in
-    let inside : c.in-Some.position < length c.args.rows.now.keys = omega (arith, last.0, c.loop-next.invariant.bound) in
-    let other : (d : List ℕ) → get_or c.args.rows.now.keys c.in-Some.position d ≢ c.args.key.now = λ d same.
-    never (c.if-are_same.ensures.1 (c.entry.ensures.key ∙ get_or_default c.args.rows.now.keys c.in-Some.position [] d inside ∙ same ∙ sym c.as_slice.ensures.value)) in
-    record {
-      end = c.in-Some.position;
-      bound = omega (arith, inside);
-      last = c.before-next.ensures.value;
-      behind = past _ _ _ c.requires.index c.args.key.now c.args.hash c.requires.hash c.loop-next.invariant.end c.in-Some.position c.loop-next.invariant.behind last other;
-    }
-
--- no position is left
-pub returns-clause-absent : goal.returns-clause-absent
-returns-clause-absent c =
-    let none = rw c.in_default.is at c.loop-next.invariant.last in
-    past_all _ _ _ c.requires.index c.args.key.now c.args.hash c.requires.hash c.loop-next.invariant.end c.loop-next.invariant.behind none
+-- the last position of the hash has another key, and no position after it has the hash
+pub position_before-requires-clause-lacks : goal.position_before-requires-clause-lacks
+position_before-requires-clause-lacks c =
+    let keys = c.args.rows.now.keys in
+    let last = c.in_ok-last.last in
+    let inside : last < length keys = omega (arith, c.in_ok-last.ensures.value.0, as_many _ _ _ c.requires.index) in
+    let other : (d : List ℕ) → get_or keys last d ≢ c.args.key.now = λ d same.
+    never (c.if-are_same.ensures.1 (c.entry.ensures.key ∙ get_or_default keys last [] d inside ∙ same ∙ sym c.as_slice.ensures.value)) in
+    past _ _ _ c.requires.index c.args.key.now c.args.hash c.requires.hash (length c.args.index.now.hashes) last
+    (λ j d low high. absurd (omega (arith, low, high, as_many _ _ _ c.requires.index))) c.in_ok-last.ensures.value other

@@ -1,4 +1,4 @@
-use Rattle.std.proofs.Common.{◌∙◌, List, [], inr, sym, subst}
+use Rattle.std.proofs.Common.{List, [], inr, sym, subst}
 use Rattle.bpf_model.specs.declared.instruction.Insn.{Insn}
 use Rattle.map_commands.specs.Commands.{SpellsProgram}
 use Rattle.map_commands.proofs.commands.listed.Goals as goal

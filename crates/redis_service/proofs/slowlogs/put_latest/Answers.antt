@@ -1,4 +1,4 @@
-use Rattle.std.proofs.Common.{◌≡◌, ℕ, List, [], ap, sym, subst, inl, inr, refl, length}
+use Rattle.std.proofs.Common.{List, [], sym, subst, inl, inr, refl, length}
 use Rattle.redis_service.specs.Lines.{no_memory_line}
 use Rattle.server_state.specs.declared.slowlog.SlowEntry.{SlowEntry}
 use Rattle.redis_service.specs.Slowlogs.{IsWithin, entries_bytes}

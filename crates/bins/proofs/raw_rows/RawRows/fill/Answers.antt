@@ -1,6 +1,6 @@
 use Rattle.std.proofs.Common.{rules, ◌≡◌, length, set, refl, ap, arith, ◌∙◌}
 use Rattle.std.proofs.lemmas.List.{length-set}
-use Rattle.bins.specs.declared.raw_rows.Location.TheVariants.{In}
+use Rattle.bins.specs.declared.locations.Location.TheVariants.{In}
 use Rattle.bins.specs.KeptRows.{kept}
 use Rattle.bins.specs.Rows.{lists_in, rows_in}
 use Rattle.bins.proofs.PoolLemmas.{spare_free}

@@ -1,5 +1,5 @@
 use Rattle.std.proofs.Common.{◌≤◌, ◌++◌, ◌∷◌, [], List, refl, sym, subst, ap, length, arith}
-use Rattle.bins.specs.declared.raw_rows.Location.{Location}
+use Rattle.bins.specs.declared.locations.Location.{Location}
 use Rattle.bins.specs.KeptRows.{AreRows}
 use Rattle.bins.specs.Rows.{lists_in}
 use Rattle.bins.proofs.RowSteps.{pushed_rows}

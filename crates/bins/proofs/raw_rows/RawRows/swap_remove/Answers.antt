@@ -1,6 +1,6 @@
 use Rattle.std.proofs.Common.{◌<◌, [], List, ℕ, length, arith, sym, ap, subst, ◌∙◌}
 use Rattle.std.specs.List.{swap_remove}
-use Rattle.bins.specs.declared.raw_rows.Location.{Location}
+use Rattle.bins.specs.declared.locations.Location.{Location}
 use Rattle.bins.specs.KeptRows.{AreRows, Lists, keys_of, values_of}
 use Rattle.bins.specs.Rows.{keys_in, lists_in, values_in}
 use Rattle.bins.proofs.RowRemovals.{emptied_first}

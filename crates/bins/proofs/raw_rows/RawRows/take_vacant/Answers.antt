@@ -2,7 +2,7 @@ use Rattle.std.proofs.Common.{rules, ◌≡◌, ◌-◌, ◌<◌, ◌≤◌, len
 use Rattle.std.specs.List.{swap_remove}
 use Rattle.bins.specs.KeptRows.{location_at}
 use Rattle.bins.specs.Rows.{IsRoomy, lists_in}
-use Rattle.bins.specs.declared.raw_rows.Location.{Location}
+use Rattle.bins.specs.declared.locations.Location.{Location}
 use Rattle.bins.proofs.RowLemmas.{read_location}
 use Rattle.bins.proofs.RoomLemmas.{roomy_as}
 use Rattle.bins.proofs.RowSteps.{Taken, taken_as, taken_in, taken_vacant}

@@ -1,9 +1,9 @@
 use Rattle.std.proofs.Common.{rules, ◌≡◌, ◌<◌, [], length, set, sym, ap, refl, arith, ◌∙◌, get_or-set_same}
 use Rattle.std.proofs.lemmas.List.{length-set}
-use Rattle.bins.specs.declared.raw_rows.Location.TheVariants.{Vacant, In}
+use Rattle.bins.specs.declared.locations.Location.TheVariants.{Vacant, In}
 use Rattle.bins.specs.KeptRows.{KeptRow, nobody, location_at}
 use Rattle.bins.specs.Rows.{keys_in, lists_in, values_in}
-use Rattle.bins.proofs.RowLemmas.{inside, no_more, read_location, vacant_read}
+use Rattle.bins.proofs.RowLemmas.{inside, no_more, vacant_read}
 use Rattle.bins.proofs.RowSteps.{Changed, changed_as, vacated, written_same}
 use Rattle.bins.proofs.RoomLemmas.{few_widths, roomy_as}
 use Rattle.bins.proofs.raw_rows.RawRows.vacate.Goals as goal
@@ -11,12 +11,12 @@ use Rattle.bins.proofs.raw_rows.RawRows.vacate.Goals as goal
 -- the location names an existing row
 pub remove_in-owner-requires-clause-range : goal.remove_in-owner-requires-clause-range
 remove_in-owner-requires-clause-range c =
-    let named = read_location c.args.self.now.locations.items c.args.position c.index-word.result.now _ c.requires.range c.index-word.ensures (sym c.get.ensures.value ∙ c.in-In.is) in
+    let named = sym c.location.ensures.value ∙ c.in-In.is in
     ((c.requires.rows.matched c.in-In.width).named _ _ named).0
 
 pub new-requires : goal.new-requires
 new-requires c =
-    let named = read_location c.args.self.now.locations.items c.args.position c.index-word.result.now _ c.requires.range c.index-word.ensures (sym c.get.ensures.value ∙ c.in-In.is) in
+    let named = sym c.location.ensures.value ∙ c.in-In.is in
     let matched = c.requires.rows.matched c.in-In.width in
     let there = (matched.named _ _ named).0 in (
       few_widths c.args.self.now c.requires.room c.in-In.width.step c.in-In.at there,
@@ -33,7 +33,7 @@ returns-in-In c =
     let at = c.in-In.at in
     let owner = c.remove_in-owner.result in
     let after = c.remove_in-owner.new.self in
-    let named : location_at ps p ≡ In k at = read_location ps p c.index-word.result.now _ c.requires.range c.index-word.ensures (sym c.get.ensures.value ∙ c.in-In.is) in
+    let named : location_at ps p ≡ In k at = sym c.location.ensures.value ∙ c.in-In.is in
     let left : Changed ps (lists_in raw) p [] [] (set (set after.locations.items owner c.new.result) p c.new-in-In.result) (lists_in after) =
     changed_as ps (lists_in raw) p [] [] _ _ _ (lists_in after)
     (λ i. set (set (c.remove_in-owner.ensures.locations i).items owner (c.new.ensures i)) p (c.new-in-In.ensures i)) c.remove_in-owner.ensures.rows
@@ -54,11 +54,11 @@ returns-in-In c =
 pub returns-in_default-clause-keys : goal.returns-in_default-clause-keys
 returns-in_default-clause-keys c =
     let raw = c.args.self.now in
-    let vacant = read_location raw.locations.items c.args.position c.index-word.result.now _ c.requires.range c.index-word.ensures (sym c.get.ensures.value ∙ c.in_default.is) in
+    let vacant = sym c.location.ensures.value ∙ c.in_default.is in
     sym (written_same (keys_in raw) c.args.position _ (vacant_read (λ (r : KeptRow). r.key) raw.locations.items (lists_in raw) c.args.position c.requires.range vacant refl))
 
 pub returns-in_default-clause-values : goal.returns-in_default-clause-values
 returns-in_default-clause-values c =
     let raw = c.args.self.now in
-    let vacant = read_location raw.locations.items c.args.position c.index-word.result.now _ c.requires.range c.index-word.ensures (sym c.get.ensures.value ∙ c.in_default.is) in
+    let vacant = sym c.location.ensures.value ∙ c.in_default.is in
     sym (written_same (values_in raw) c.args.position _ (vacant_read (λ (r : KeptRow). r.value) raw.locations.items (lists_in raw) c.args.position c.requires.range vacant refl))

@@ -1,5 +1,5 @@
 use Rattle.std.proofs.Common.{◌≡◌, ◌+◌, ◌≤◌, length, vec_capacity}
-use Rattle.bins.proofs.raw_rows.append_segments.Given as goal
+use Rattle.bins.proofs.pool.append_segments.Given as goal
 
 -- this many segments are there, and the list has room for all wanted ones
 abbrev pub invariant-loop-count : goal.invariant-loop-count

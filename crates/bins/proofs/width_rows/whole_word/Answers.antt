@@ -1,7 +1,7 @@
 use Rattle.std.proofs.Common.{◌≡◌, length}
 use Rattle.std.specs.Int.{from_le_bytes, w64}
 use Rattle.std.proofs.lemmas.Nat.{le_bytes_8}
-use Rattle.bins.proofs.hashed_bins.word_of.Goals as goal
+use Rattle.bins.proofs.width_rows.whole_word.Goals as goal
 
 -- the word tells its bytes
 pub returns-in-Ok-clause-bytes : goal.returns-in-Ok-clause-bytes

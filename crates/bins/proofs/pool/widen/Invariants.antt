@@ -1,6 +1,6 @@
 use Rattle.std.proofs.Common.{◌<◌, ◌≤◌, ℕ}
 use Rattle.bins.specs.Rows.{AreWider, width_at}
-use Rattle.bins.proofs.raw_rows.widen.Given as goal
+use Rattle.bins.proofs.pool.widen.Given as goal
 
 -- the first lists have room
 abbrev pub invariant-loop-step : goal.invariant-loop-step

@@ -2,7 +2,7 @@ use Rattle.std.proofs.Common.{◌<◌, length, sym, ap, ◌∙◌, arith}
 use Rattle.std.proofs.lemmas.List.{get_or_past}
 use Rattle.bins.specs.Segments.{KeptWidth, no_width}
 use Rattle.bins.proofs.RoomLemmas.{read_width}
-use Rattle.bins.proofs.raw_rows.segments_at.Goals as goal
+use Rattle.bins.proofs.pool.segments_at.Goals as goal
 
 pub returns-then-step-len : goal.returns-then-step-len
 returns-then-step-len c =

@@ -1,7 +1,7 @@
 use Rattle.std.proofs.Common.{◌≢◌, ◌≤◌, ℕ, suc, Option, Some, None, length}
 use Rattle.std.specs.List.{AllWithin}
 use Rattle.bins.specs.Chains.{IsLastOf}
-use Rattle.bins.proofs.hashed_bins.found_with.Given as goal
+use Rattle.bins.proofs.hashed_bins.position_before.Given as goal
 
 -- no position from `end` on has the key, and the next position is the last of the hash before it
 abbrev pub invariant-loop-next : goal.invariant-loop-next

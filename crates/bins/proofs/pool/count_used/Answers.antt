@@ -1,8 +1,8 @@
 use Rattle.std.proofs.Common.{◌+◌, ◌≤◌, ℕ, arith}
-use Rattle.bins.specs.declared.raw_rows.TheConstants.{WIDTHS}
+use Rattle.bins.specs.declared.pool.TheConstants.{WIDTHS}
 use Rattle.bins.specs.Rows.{total, used, width_at}
 use Rattle.bins.proofs.PoolLemmas.{total_more, total_start, total_upto}
-use Rattle.bins.proofs.raw_rows.count_used.Goals as goal
+use Rattle.bins.proofs.pool.count_used.Goals as goal
 
 pub loop-step-init : goal.loop-step-init
 loop-step-init c = total_start _

@@ -1,6 +1,6 @@
 use Rattle.std.proofs.Common.{◌≡◌, ℕ}
 use Rattle.bins.specs.Rows.{total, width_at}
-use Rattle.bins.proofs.raw_rows.count_used.Given as goal
+use Rattle.bins.proofs.pool.count_used.Given as goal
 
 -- the sum so far
 abbrev pub invariant-loop-step : goal.invariant-loop-step
