@@ -157,9 +157,9 @@ fn front_word(bytes: &[u8]) -> u64
 }
 
 /// Returns the first eight bytes as a number, with zeros for those that are missing. If one string's number is less than
-/// another's, it comes first.
+/// another's, it comes first. Takes no memory.
 #[inline(always)]
-pub(crate) fn front_of(bytes: &[u8]) -> u64
+pub fn front_of(bytes: &[u8]) -> u64
     ensures value { result ≡ front 8 bytes.now }
     ensures bytes { AreBytes bytes.now }
 {

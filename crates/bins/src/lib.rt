@@ -40,7 +40,7 @@ pub use bins::Bins;
 pub use counts::Counts;
 pub use entry_list::EntryList;
 pub use hashed_bins::HashedBins;
-pub use hashes::{HashedKey, Seed, hash_of};
+pub use hashes::{HashedKey, Seed, front_of, hash_of};
 pub use lent_entries::LentEntries;
 pub use list_bins::ListBins;
 pub use merged_entries::{EntryPosition, MergedEntries};

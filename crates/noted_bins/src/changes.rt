@@ -7,7 +7,7 @@ ghost use Rattle.noted_bins.specs.Taking.{HandsOutAll, HandsOutAt, HandsOutPrese
 
 use crate::key_filter::KeyFilter;
 use crate::mark::{Mark, SavedEntry};
-use crate::packed_entries::PackedEntries;
+use crate::packed_entries::{KEPT_PLACES, PackedEntries};
 use bins::{HashedKey, Ranks};
 use bpf_model::limits::{KEY_BYTES, VALUE_BYTES};
 use bpf_model::{Key, NoMemory};
@@ -79,6 +79,7 @@ impl Changes {
     {
         self.entries.clear();
         self.marks.clear();
+        self.marks.shrink_to(KEPT_PLACES);
     }
 
     /// Adds a row of what is there of a key. Returns `NoMemory` if a request for memory is refused; then nothing changes.

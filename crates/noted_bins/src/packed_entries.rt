@@ -9,10 +9,11 @@ use bpf_model::limits::{KEY_BYTES, VALUE_BYTES};
 use std::alloc::Global;
 use std::marker::Model;
 
-/// So many bytes, and places of so many entries, have their memory kept when the entries are dropped.
+/// When the entries are dropped, the list keeps memory for this many bytes.
 const KEPT_BYTES: usize = 1 << 18;
 
-const KEPT_PLACES: usize = 1 << 12;
+/// And for the places of this many entries.
+pub(crate) const KEPT_PLACES: usize = 1 << 12;
 
 /// Where an entry lies: its key, and then its value.
 #[derive(Clone, Copy)]
