@@ -9,6 +9,7 @@ from __future__ import annotations
 
 import argparse
 import contextlib
+import itertools
 import os
 import random
 import re
@@ -242,12 +243,13 @@ def read_all(client: Client, sent: bytes, asked: int, count: int) -> None:
 
 
 def memory_runs_out(program: Path) -> None:
-    """Puts new keys until memory is refused: each reply says whether its key is there, and then keys that are removed make room again."""
+    """Puts new keys until memory is refused: each reply says whether its key is there. Keys that are removed make room again. If memory for
+    a command of many words is refused, nothing is changed, and its client is let go."""
     if "MAPD_IS_CHECKED" in os.environ:
         return
     server = Front(program, ["--workers", "2"], kib=230_000)
     try:
-        with Client(server.address) as client:
+        with Client(server.address) as client, Client(server.address) as other:
             replies = [client.ask("SET", f"key {number}", b"v" * 1024) for number in range(100_000)]
             taken = replies.count(resp.OK)
             same("the replies", set(replies), {resp.OK, resp.NO_MEMORY})
@@ -255,8 +257,14 @@ def memory_runs_out(program: Path) -> None:
             there = [client.ask("EXISTS", f"key {number}") == b":1\r\n" for number in range(100_000)]
             same("which keys are there", there, [reply == resp.OK for reply in replies])
             same("a PING", client.ask("PING"), b"+PONG\r\n")
-            removed = client.ask("DEL", *(f"key {number}" for number in range(1000)))
-            same("the number of removed keys", removed, resp.integer(sum(there[:1000])))
+            some = list(itertools.compress(itertools.count(), there))
+            few, many = some[:200], some[200:1200]
+            same("each of few keys is removed", {client.ask("DEL", f"key {number}") for number in few}, {resp.integer(1)})
+            same("none of them is there", {client.ask("EXISTS", f"key {number}") for number in few}, {resp.integer(0)})
+            same("each is put again", {client.ask("SET", f"key {number}", b"w" * 1024) for number in few}, {resp.OK})
+            removed = client.ask("DEL", *(f"key {number}" for number in many))
+            same("many keys are removed, or the command is refused", removed in (resp.integer(len(many)), resp.NO_MEMORY), True)
+            same("how many keys are left", other.ask("DBSIZE"), resp.integer(taken - len(many) * (removed != resp.NO_MEMORY)))
     finally:
         server.end()
 

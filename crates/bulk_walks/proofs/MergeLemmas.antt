@@ -14,7 +14,7 @@ use Rattle.std.proofs.lemmas.List.Elements.{All-from_get_or}
 use Rattle.std.proofs.lemmas.List.Sums.{sum_by-cons, sum_by-le, sum_by-set}
 use Rattle.bins.specs.Entries.{entry_of}
 use Rattle.bins.specs.Merged.{entry_at}
-use Rattle.bins.specs.Fronts.{AreBytes}
+use Rattle.bins.specs.Fronts.{front, AreBytes}
 use Rattle.bins.proofs.FrontLemmas.{by_front}
 use Rattle.bins.specs.Table.{Entry, by_bytes}
 use Rattle.bulk_walks.specs.declared.answers.Answers.{Answers}
@@ -56,6 +56,11 @@ pub comes_first-by_lead : (xs ys : List Entry) → AreBytes (entry_of ys 0).0 �
 comes_first-by_lead xs [] bytes less = refl
 comes_first-by_lead [] (y ∷ ys) bytes less = absurd (let fits = lead_fits (y ∷ ys) bytes in omega (arith, less, fits))
 comes_first-by_lead (x ∷ xs) (y ∷ ys) bytes less = ranks.one_way x y (ap is_lt (by_front 8 x.0 y.0 bytes less))
+
+-- a key with a lesser lead comes first
+pub comes_first-of_lead : (x : Entry) (ys : List Entry) → AreBytes (entry_of ys 0).0 → front 8 x.0 < lead_of ys → comes_first (x ∷ []) ys ≡ true
+comes_first-of_lead x [] bytes less = refl
+comes_first-of_lead x (y ∷ ys) bytes less = ap is_lt (by_front 8 x.0 y.0 bytes less)
 
 pub comes_first-chain : (xs ys zs : List Entry) → comes_first xs ys ≡ false → comes_first ys zs ≡ false → comes_first xs zs ≡ false
 comes_first-chain [] ys zs h k = refl

@@ -1,5 +1,5 @@
 -- A search over entries: one more entry.
-use Rattle.std.proofs.Common.{◌≡◌, ℕ, ◌+◌, ◌<◌, List, [], ◌∷◌, ◌++◌, length, Option, Some, Bool, true, false, cond, Ok, Err, refl, sym, ap, subst, arith, sum_by}
+use Rattle.std.proofs.Common.{◌≡◌, ℕ, ◌+◌, ◌<◌, List, [], ◌∷◌, ◌++◌, length, Option, Some, Bool, true, false, cond, Result, Ok, Err, refl, sym, ap, subst, arith, sum_by}
 use Rattle.bpf_model.specs.declared.input.Answer.TheVariants.{Nothing, Bytes}
 use Rattle.bpf_model.specs.declared.input.InputPart.{InputPart}
 use Rattle.bpf_model.specs.Fits.{input_of}
@@ -39,6 +39,13 @@ finds_first checked arg entries items position unfit searched end = record {
 pub searched_none : (checked : Checked) (arg : Option (List ℕ)) (entries : List Entry) → Searched checked arg entries [] 0 0
 searched_none checked arg entries = record { all = []; walked = walked_none ForEach checked arg entries [] refl; first = λ h. refl }
 
+-- an offer to the same program with the same argument
+pub same_offer : (program checked : Checked) (key value : List ℕ) (own_arg arg : Option (List ℕ)) (wanted : Bool) (told : Result Bool InputPart) (bytes : List ℕ) → program ≡ checked → own_arg ≡ arg
+    → IsOffered program (input_of key (Some value) own_arg) wanted told bytes → IsOffered checked (input_of key (Some value) arg) wanted told bytes
+same_offer program checked key value own_arg arg wanted told bytes program_is arg_is offered =
+    subst (λ (p : Checked). IsOffered p (input_of key (Some value) arg) wanted told bytes) program_is
+    (subst (λ (a : Option (List ℕ)). IsOffered program (input_of key (Some value) a) wanted told bytes) arg_is offered)
+
 module _ (checked : Checked) (arg : Option (List ℕ)) (entries items : List Entry) (position unfit : ℕ) (before : Searched checked arg entries items position unfit) (low : position < length entries) (entry : Entry) (is : entry ≡ entry_of entries position) (wanted : Bool) (would : (answer : List ℕ) → wanted ≡ comes_first ((entry.0, answer) ∷ []) items) where
   abbrev Comes : Outcome → Type 0
   Comes o = ComesTo checked (input_of entry.0 (Some entry.1) arg) o
@@ -71,8 +78,8 @@ module _ (checked : Checked) (arg : Option (List ℕ)) (entries items : List Ent
   given_by bytes false w (Err part) comes tells = absurd cc
 
   -- the program answered these bytes
-  pub searched_given : (bytes : List ℕ) → IsOffered checked (input_of entry.0 (Some entry.1) arg) wanted (Ok true) bytes → Searched checked arg entries (((entry_of entries position).0, bytes) ∷ []) (position + 1) unfit
-  searched_given bytes offered = subst (λ (e : Entry). Searched checked arg entries ((e.0, bytes) ∷ []) (position + 1) unfit) is (given_by bytes wanted refl offered.outcome offered.comes_to offered.tells)
+  pub searched_given : (bytes : List ℕ) → IsOffered checked (input_of entry.0 (Some entry.1) arg) wanted (Ok true) bytes → Searched checked arg entries ((entry.0, bytes) ∷ []) (position + 1) unfit
+  searched_given bytes offered = given_by bytes wanted refl offered.outcome offered.comes_to offered.tells
 
   none_by : (bytes : List ℕ) (b : Bool) → wanted ≡ b → (o : Outcome) → Comes o → Tells b o (Ok false) bytes → Searched checked arg entries items (position + 1) unfit
   none_by bytes true w o comes tells = nothing_at (subst Comes tells comes)

@@ -120,7 +120,7 @@ pub record IsOffered (checked : Checked) (input : Input) (wanted : Bool) (told :
   pub comes_to : ComesTo checked input outcome
   pub tells : Tells wanted outcome told bytes
 
--- the key at a position of a list with an answer, or nothing
-abbrev pub item_at : List Entry → Option ℕ → List ℕ → List Entry
-item_at entries None answer = []
-item_at entries (Some position) answer = ((entry_of entries position).0, answer) ∷ []
+-- a key with an answer, or nothing
+abbrev pub item_of : Option (List ℕ) → List ℕ → List Entry
+item_of None answer = []
+item_of (Some key) answer = (key, answer) ∷ []

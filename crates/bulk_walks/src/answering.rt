@@ -14,7 +14,7 @@ use bpf_model::NoMemory;
 use std::alloc::Global;
 use std::thread::Threads;
 use std::{mem, thread};
-use workers::for_each_apart;
+use workers::{Execution, for_each_apart};
 
 /// Runs the program on the waiting entries too, and returns what this kind of walk gives.
 fn answers_with(
@@ -51,17 +51,16 @@ fn answer_each<R: Threads + Sync>(
     alloc: Global,
     walk: &Walk<'_>,
     parts: &mut [Part],
-    apart: bool,
+    execution: Execution,
 )
     ensures each { (i : ℕ) (d : WorkersPart) → i < length parts.old → IfSome (slice_index_or parts.new i d).answers (λ answers.
         (early : List Entry) → IsGathered walk.now.kind walk.now.program.now walk.now.arg.now early (slice_index_or parts.old i d).gathered
         → IsAnswered walk.now.kind walk.now.program.now walk.now.arg.now (early ++ (slice_index_or parts.old i d).waiting) answers) }
 {
     let call = |_, part: &mut Part| answer_part(alloc, walk, part);
-    if apart {
-        for_each_apart(rt, parts, &call);
-    } else {
-        thread::for_each_mut(rt, parts, 1, &call);
+    match execution {
+        Execution::Parallel => for_each_apart(rt, parts, &call),
+        Execution::Sequential => thread::for_each_mut(rt, parts, 1, &call),
     }
 }
 
@@ -87,18 +86,18 @@ pub(crate) fn answer_all<R: Threads + Sync>(
     alloc: Global,
     walk: &Walk<'_>,
     mut parts: Vec<Part>,
-    apart: bool,
+    execution: Execution,
 ) -> Result<Vec<Answers>, NoMemory>
     ensures { IfOk result (λ all. (earlies : List (List Entry)) → AreGathered walk.now.kind walk.now.program.now walk.now.arg.now earlies parts.items
         → AreAnswered walk.now.kind walk.now.program.now walk.now.arg.now (lists_with earlies parts.items) all.items) }
 {
-    answer_each(rt, alloc, walk, &mut parts, apart);
+    answer_each(rt, alloc, walk, &mut parts, execution);
     let all = answers_of(alloc, parts)?;
     Ok(all)
 }
 
 /// Returns how many entries were scanned, capped at the greatest number.
-pub(crate) fn scanned_in(parts: &[Part]) -> u64 {
+fn scanned_in(parts: &[Part]) -> u64 {
     let mut scanned: u64 = 0;
     for part in parts {
         let own = part.gathered.scanned + part.waiting.len() as u64;
@@ -108,6 +107,16 @@ pub(crate) fn scanned_in(parts: &[Part]) -> u64 {
 }
 
 /// Tests whether several threads would have something to do: answers to sort, or entries on which the program hasn't run.
-pub(crate) fn leave_work(kind: WalkKind, parts: &[Part]) -> bool {
+fn leave_work(kind: WalkKind, parts: &[Part]) -> bool {
     matches!(kind, WalkKind::ForEach) || parts.iter().any(|part| !part.waiting.is_empty())
+}
+
+/// Returns in which threads the rest of a walk is done: in several if the workers found at least `threshold` entries, and several
+/// would have something to do.
+pub(crate) fn execution_after(walk: &Walk<'_>, parts: &[Part]) -> Execution {
+    if scanned_in(parts) >= walk.threshold && leave_work(walk.kind, parts) {
+        Execution::Parallel
+    } else {
+        Execution::Sequential
+    }
 }

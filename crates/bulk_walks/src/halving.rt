@@ -14,6 +14,7 @@ use bins::EntryPosition;
 use bpf_model::NoMemory;
 use std::alloc::Global;
 use std::thread::{Threads, join_mut};
+use workers::Execution;
 
 /// The items of each worker in two parts. All keys of the first parts come before all keys of the others.
 #[derive(Drop)]
@@ -25,13 +26,13 @@ struct Halves<'a> {
 /// A thread has at least this many items: it takes about as long to start as to find the positions of half of them.
 const LEAST_SHARE: usize = 4096;
 
-/// Writes the positions of all items in key order. If the workers work apart and there are enough items, as many threads find
-/// them as there are workers. Asks for memory only if there are several. Returns `NoMemory` if that is refused.
+/// Writes the positions of all items in key order. If several threads may do it and there are enough items, as many find them
+/// as there are workers. Asks for memory only if there are several. Returns `NoMemory` if that is refused.
 pub(crate) fn write_positions<R: Threads + Sync>(
     rt: &R,
     alloc: Global,
     mut rests: Vec<Rest<'_>>,
-    apart: bool,
+    execution: Execution,
     places: &mut [EntryPosition],
 ) -> Result<(), NoMemory>
     requires order { All (λ rest. T (finmap.is_sorted by_bytes (left_of rest))) rests.items }
@@ -39,7 +40,7 @@ pub(crate) fn write_positions<R: Threads + Sync>(
     ensures { OnOk result (PlacesAll rests.entry.items places.new) }
 {
     let threads = rests.len().min(places.len() / LEAST_SHARE);
-    if !apart || threads < 2 {
+    if matches!(execution, Execution::Sequential) || threads < 2 {
         place(&mut rests, places);
         return Ok(());
     }

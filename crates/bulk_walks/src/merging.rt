@@ -19,6 +19,7 @@ use bins::{Counts, EntryList, EntryPosition, MergedEntries};
 use bpf_model::NoMemory;
 use std::alloc::Global;
 use std::thread::Threads;
+use workers::Execution;
 
 /// Stands where no position is written yet.
 const NOWHERE: EntryPosition = EntryPosition {
@@ -26,14 +27,14 @@ const NOWHERE: EntryPosition = EntryPosition {
     position: 0,
 };
 
-/// Merges the answers of all workers into the reply of this kind of walk; if they work apart, several threads may find the order of
-/// the items. Returns `NoMemory` if a request for memory is refused; `Search` makes none. No item is copied.
+/// Merges the answers of all workers into the reply of this kind of walk. If the execution is parallel, several threads may find the
+/// order of the items. Returns `NoMemory` if a request for memory is refused; `Search` makes none. No item is copied.
 pub(crate) fn merged<R: Threads + Sync>(
     rt: &R,
     alloc: Global,
     kind: WalkKind,
     all: Vec<Answers>,
-    apart: bool,
+    execution: Execution,
 ) -> Result<WalkReply, NoMemory>
     requires order { All (λ answers. T (finmap.is_sorted by_bytes (kept_of answers))) all.items }
     requires scanned { sum_by (λ answers. answers.scanned) all.items < 2 ^ 64 }
@@ -42,7 +43,7 @@ pub(crate) fn merged<R: Threads + Sync>(
     ensures { IfOk result (λ reply. (replies : List Reply) → StandForAll kind replies all.items → IsMerge kind replies reply) }
 {
     let total = total_of(&all);
-    let items = items_of(rt, alloc, kind, all, total.given as usize, apart)?;
+    let items = items_of(rt, alloc, kind, all, total.given as usize, execution)?;
     let given = items.len() as u64;
     let counts = Counts { given, ..total };
     Ok(WalkReply { items, counts })
@@ -55,7 +56,7 @@ fn items_of<R: Threads + Sync>(
     kind: WalkKind,
     all: Vec<Answers>,
     count: usize,
-    apart: bool,
+    execution: Execution,
 ) -> Result<MergedEntries, NoMemory>
     requires order { All (λ answers. T (finmap.is_sorted by_bytes (kept_of answers))) all.items }
     requires counted { count ≡ sum_by (λ items. length items) (kept_in all.items) }
@@ -63,7 +64,7 @@ fn items_of<R: Threads + Sync>(
 {
     match kind {
         WalkKind::Search => Ok(MergedEntries::of_one(first_of(alloc, all))),
-        WalkKind::ForEach => all_items(rt, alloc, all, count, apart),
+        WalkKind::ForEach => all_items(rt, alloc, all, count, execution),
     }
 }
 
@@ -114,13 +115,13 @@ fn all_items<R: Threads + Sync>(
     alloc: Global,
     all: Vec<Answers>,
     count: usize,
-    apart: bool,
+    execution: Execution,
 ) -> Result<MergedEntries, NoMemory>
     requires order { All (λ answers. T (finmap.is_sorted by_bytes (kept_of answers))) all.items }
     requires counted { count ≡ sum_by (λ items. length items) (kept_in all.items) }
     ensures { IfOk result (λ items. (whole : List Entry) → T (finmap.is_sorted by_bytes whole) → HasAll whole (kept_in all.items) → items ≡ whole) }
 {
-    let positions = positions_of(rt, alloc, &all, count, apart)?;
+    let positions = positions_of(rt, alloc, &all, count, execution)?;
     let lists = lists_in(alloc, all)?;
     Ok(MergedEntries::of_several(lists, positions))
 }
@@ -143,7 +144,7 @@ fn positions_of<R: Threads + Sync>(
     alloc: Global,
     all: &[Answers],
     count: usize,
-    apart: bool,
+    execution: Execution,
 ) -> Result<Vec<EntryPosition>, NoMemory>
     requires order { All (λ answers. T (finmap.is_sorted by_bytes (kept_of answers))) all.now }
     requires counted { count ≡ sum_by (λ items. length items) (kept_in all.now) }
@@ -152,6 +153,6 @@ fn positions_of<R: Threads + Sync>(
     let rests = rests_of(alloc, all)?;
     let mut positions = Vec::with_capacity(alloc, count)?;
     positions.resize(count, NOWHERE)?;
-    write_positions(rt, alloc, rests, apart, &mut positions)?;
+    write_positions(rt, alloc, rests, execution, &mut positions)?;
     Ok(positions)
 }

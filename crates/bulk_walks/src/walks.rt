@@ -4,7 +4,7 @@ ghost use Rattle.bin_stripes.specs.Passes.{stripes_of};
 ghost use Rattle.atomic_methods.specs.declared.walk_reply.WalkKind.TheVariants.{Search, ForEach};
 ghost use Rattle.bulk_walks.specs.Walks.{Walks};
 
-use crate::answering::{answer_all, leave_work, scanned_in};
+use crate::answering::{answer_all, execution_after};
 use crate::finding::find;
 use crate::merging::merged;
 use crate::team::Team;
@@ -39,11 +39,11 @@ pub fn walk_map<R: Threads + Wait + Sync, G: Gate + Sync>(
     let Ok(parts) = found else {
         return (team, Err(NoMemory));
     };
-    let apart = scanned_in(&parts) >= walk.threshold && leave_work(walk.kind, &parts);
-    let Ok(answers) = answer_all(rt, alloc, walk, parts, apart) else {
+    let execution = execution_after(walk, &parts);
+    let Ok(answers) = answer_all(rt, alloc, walk, parts, execution) else {
         return (team, Err(NoMemory));
     };
-    (team, merged(rt, alloc, walk.kind, answers, apart))
+    (team, merged(rt, alloc, walk.kind, answers, execution))
 }
 
 /// The walk of kind `Search`: the least key with a present answer, and that answer; or no item.

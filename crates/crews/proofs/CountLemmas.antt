@@ -8,7 +8,7 @@ use Rattle.slab.proofs.SlabLemmas.{ContainsKey-within}
 use Rattle.crews.specs.Arrivals.{CountGoes}
 
 module _ {P : Type 0} (there : P → ℕ → Type 0) where
-  -- so many more are there all along
+  -- this many more are there all along
   pub counts_by : (a b : P) (i j k m n : ℕ) → m ≡ i + k → n ≡ j + k → CountGoes there a i b j → CountGoes there a m b n
   counts_by a b i j k m n first last goes others at =
       subst (λ (t : ℕ). there b t) (omega (arith, last)) (goes (others + k) (subst (λ (t : ℕ). there a t) (omega (arith, first)) at))

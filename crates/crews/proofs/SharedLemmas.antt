@@ -163,7 +163,7 @@ serves_leads hello old request responses new (inl answers) =
     record { map = leads.map; numbers = leads.numbers; mine = leads.mine }
 serves_leads hello old request responses new (inr (names, refused)) = once old new _ responses refused
 
--- what a session's pass has made behind it
+-- what a session's pass has made after it
 session_made : (old : Station) (pass : PassState) (s : SessionOf old pass) → Leads old (calls_of old pass s) s.new
 session_made old pass s = session_leads CrewServes call_of_step Leads stays goes_on serves_leads old s.new s.read s.written s.last s.end s.ended
 
@@ -187,7 +187,7 @@ sees_both one other joined map other_map is sound first second session later k q
 
 -- ---- sessions one after the other
 
--- what a crew's pass has made behind them
+-- what a crew's pass has made after them
 all_made : (n : ℕ) (old new : Crew) (s : SessionsOfCrew n old new) → Adds old.pass (calls_in n old new s) new.pass
 all_made zero old new same = subst (λ (c : Crew). Adds old.pass [] c.pass) (sym same) (adds_none old.pass)
 all_made (suc n) old new (mid, before, one) =

@@ -133,7 +133,7 @@ module _ (k : ℕ) where
 
   -- ---- one pass
 
-  -- a pass made these events, in their order behind what it had seen
+  -- a pass made these events, in their order, after what it had seen
   pub record Grows (old : PassState) (more : Events) (new : PassState) : Type 0 where
     pub mine : mine_of new.view k ≡ mine_of old.view k ++ more
     pub rest : Events
@@ -343,7 +343,7 @@ module _ (k : ℕ) where
         let map = heard_map old.pass new.team new.pass hears in
         (subst (λ (n : ℕ). k < n) (sym (ap stripes_of map)) on.0, λ i d lt. maps i d lt ∙ sym map)
 
-    -- what the team made on the stripe, and that the crew's pass has it behind what it had seen
+    -- what the team made on the stripe, and that the crew's pass has it after what it had seen
     team_goes : (events : Events) → ((j : ℕ) → j < length told → k % length told ≡ j → mine_of (slice_index_or new.team j old.pass).view k ≡ mine_of (slice_index_or told j old.pass).view k ++ events)
         → SeesInOrder k old (walked events) new.pass → On old → Goes old (walked events) new
     team_goes events in_turn sees on =
@@ -370,7 +370,7 @@ module _ (k : ℕ) where
               idle j below (λ e. other (subst (λ (n : ℕ). k % n ≡ j) long e)) ∙ told_mine on j lt ∙ sym (append-nil (mine_of (slice_index_or old.team j old.pass).view k))
               ∙ ap (λ es. mine_of (slice_index_or old.team j old.pass).view k ++ es) (not_chosen (k % length old.team == 0 + j) events (ne_eqb (k % length old.team) (0 + j) away))
 
-    -- the pass that made them has them last, behind what it was told
+    -- the pass that made them has them last, after what it was told
     sees_turn : (events : Events) (j : ℕ) → j < length told → Gains (slice_index_or told j old.pass).view (slice_index_or new.team j old.pass).view k events → On old → SeesInOrder k old (walked events) new.pass
     sees_turn events j lt gains on =
         let long = told_length old.pass old.team told tells in

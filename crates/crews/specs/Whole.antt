@@ -103,7 +103,7 @@ module _ (k : ℕ) where
 
   -- ---- what is known of it
 
-  -- what each pass of the team had made there, from the worker j on, and behind it these events, if the stripe is in its turn
+  -- what each pass of the team had made there, from the worker j on, and after it these events, if the stripe is in its turn
   abbrev pub team_made : (workers j : ℕ) (team : List PassState) (events : Events) → Events
   team_made workers j [] events = []
   team_made workers j (member ∷ team) events =
@@ -119,7 +119,7 @@ HasInOrder [] all = Unit {0}
 HasInOrder (event ∷ events) all =
     (before : Events) × (after : Events) × (all ≡ before ++ event ∷ after) × HasInOrder events after
 
--- the pass has seen on the stripe k what the crew's pass had seen, and behind it all that the crew made since, in the order of its answers
+-- the pass has seen on the stripe k what the crew's pass had seen, and after it all that the crew made since, in the order of its answers
 pub record SeesInOrder (k : ℕ) (old : Known) (made : List CrewEvent) (pass : PassState) : Type 0 where
   pub rest : Events
   pub begins : seen_of pass.view k ≡ seen_of old.pass.view k ++ rest

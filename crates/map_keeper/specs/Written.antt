@@ -76,7 +76,7 @@ pub record EndsWithOwn (anew : Bool) (old new : View GhostAction) (k : ℕ) (rou
 abbrev pub IsSavedSince : Bool → View GhostAction → View GhostAction → ℕ → Type 0
 IsSavedSince anew old new k = (rounds : List Round) × EndsWithOwn anew old new k rounds
 
--- a setting, a script or a program comes into the file, or the entries go of a stripe that a map of so many has not
+-- a setting, a script or a program comes into the file, or the entries go of a stripe that a map of this many doesn't have
 abbrev pub IsOther : ℕ → Step → Type 0
 IsOther stripes step =
     ((k : ℕ) × (stripes ≤ k) × (step ≡ clearing k))
@@ -84,7 +84,7 @@ IsOther stripes step =
     ⊎ (((text : List ℕ) × (step ≡ adding_script text))
     ⊎ ((at : ℕ) × (sizes : Sizes) × (bytes : List ℕ) × (step ≡ adding_program at sizes bytes))))
 
--- a map of so many stripes may be saved in several transactions: its file has none, or as many. Of another number a part could take a stripe out
+-- a map of this many stripes may be saved in several transactions: its file has none, or as many. Of another number a part could take a stripe out
 -- of the file whose entries are in later stripes of the map
 abbrev pub may_part : ℕ → ℕ → Bool
 may_part had stripes = (had == 0) || (had == stripes)
@@ -130,7 +130,7 @@ module _ {S : Type 0} (shown : Held S → State) where
     pub fit : All IsFit rounds
     pub made : MakesAll (steps_in k rounds) from to
 
-  -- .. so many stripes from `start` on, in their order
+  -- .. this many stripes from `start` on, in their order
   unfoldable pub SavesFrom : Bool → View GhostAction → View GhostAction → ℕ → ℕ → Held S → Held S → Type 0
   SavesFrom anew old new start zero from to = to ≡ from
   SavesFrom anew old new start (suc many) from to = (mid : Held S) × SavesFrom anew old new start many from mid × SavesStripe anew old new (start + many) mid to
@@ -147,7 +147,7 @@ module _ {S : Type 0} (shown : Held S → State) where
     pub are : All (IsOther stripes) others
     pub made : MakesAll others from to
 
-  -- the stripes from `start` up to `end` of a map of so many were saved, and then such steps were made. What was handed out of each of
+  -- the stripes from `start` up to `end` of a map of this many were saved, and then such steps were made. What was handed out of each of
   -- these stripes by then is what its events leave
   pub record WritesPart (anew : Bool) (old new : View GhostAction) (stripes start end : ℕ) (from to : Held S) : Type 0 where
     pub mid : Held S

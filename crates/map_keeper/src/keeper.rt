@@ -38,7 +38,7 @@ pub(crate) struct InFile {
     pub(crate) scripts: usize,
 }
 
-/// Beyond so many changes a file may be taken for long.
+/// If there are more changes than these, a file may be taken for long.
 const FEW: u64 = 1 << 16;
 
 /// How many changes the file's batches have.
@@ -51,7 +51,7 @@ struct LogLength {
 }
 
 impl LogLength {
-    /// The length after a save that wrote so many rows.
+    /// The length after a save that wrote this many rows.
     fn after(self, rows: u64, takes_anew: bool) -> LogLength {
         if takes_anew {
             return LogLength {
@@ -79,7 +79,7 @@ pub(crate) struct Had {
 }
 
 impl Had {
-    /// Tests whether a map of so many stripes may be saved in several transactions: the file has no stripes, or as many. If it has another
+    /// Tests whether a map of this many stripes may be saved in several transactions: the file has no stripes, or as many. If it has another
     /// number, what it has of a key may be in another stripe, and a part would take it away before it has it in the new one.
     pub(crate) fn may_part(&self, stripes: u64) -> bool
         ensures { result ≡ may_part self.now.in_file.stripes stripes }

@@ -31,10 +31,10 @@ const ROUND_KEYS: usize = 250;
 /// After this many rounds in which more keys were noted, one round takes all entries anew.
 const ROUNDS: u32 = 1 << 16;
 
-/// With so many bytes a batch is written.
+/// A batch of this many bytes is written.
 const BATCH_BYTES: usize = 1 << 14;
 
-/// When the batches of a transaction have so many bytes, it is committed, and the next stripe begins another one.
+/// When the batches of a transaction have this many bytes, it is committed, and the next stripe begins another one.
 const PART_BYTES: u64 = 1 << 20;
 
 /// Writes rows as batches, and rests between them.

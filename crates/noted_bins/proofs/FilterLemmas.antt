@@ -115,7 +115,7 @@ all_forgotten table order filter filter' ranks old new hands from to = record {
 pub kept_all : (table : TimedTable) (filter : List Bool) (old new : List Row) → HandsOutPresent table old new → HandsOutFiltered table filter filter old new
 kept_all table filter old new hands = record { handed = hands; known = λ key e was. absurd (let both = sym e ∙ was in cc) }
 
--- the tour left the keys at these ranks behind, or stays as it is
+-- the tour has passed the keys at these ranks, or stays as it is
 pub passed : (table : TimedTable) (order : List (List ℕ)) (before after : TourKeys) (ranks : Ranks) (old new : List Row) → HandsOutAt table order before.filter ranks old new
     → ((key : List ℕ) → is_ahead after order table.table key ≡ false → is_ahead before order table.table key ≡ true → IsOneOf ranks (rank_in order key))
     → HandsOutAhead table order before after old new

@@ -2,7 +2,7 @@
 use Rattle.std.specs.Prelude.{ℕ, ◌*◌, ◌/◌, ◌%◌, Bool, false, List, length, slice_index_or}
 use Rattle.bins.specs.Hashes.{hash}
 
--- the slot of a hash among so many
+-- the slot of a hash among this many
 abbrev pub slot_in : ℕ → ℕ → ℕ
 slot_in slots hash = (hash * 2654435761 / 1048576) % slots
 

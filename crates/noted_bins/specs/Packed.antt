@@ -12,7 +12,7 @@ between bytes from to = take (to - from) (drop from bytes)
 abbrev pub entry_at : List ℕ → Place → Entry
 entry_at bytes place = (between bytes place.start place.middle, between bytes place.middle place.end)
 
--- the place is one among so many bytes, and its key and its value have at most as many as they may
+-- the place is one among this many bytes, and its key and its value have at most as many as they may
 pub record LiesIn (many : ℕ) (place : Place) : Type 0 where
   pub key : place.start ≤ place.middle
   pub value : place.middle ≤ place.end

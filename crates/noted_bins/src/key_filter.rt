@@ -31,7 +31,7 @@ impl KeyFilter {
         }
     }
 
-    /// A filter of so many slots that has no key, or may have each. Returns `NoMemory` if a request for memory is refused.
+    /// A filter of this many slots that has no key, or may have each. Returns `NoMemory` if a request for memory is refused.
     pub(crate) fn of(alloc: Global, slots: usize, is_full: bool) -> Result<KeyFilter, NoMemory>
         ensures { IfOk result (λ filter. filter ≡ replicate slots is_full) }
     {
@@ -83,7 +83,7 @@ impl KeyFilter {
     }
 }
 
-/// Returns the slot of a hash among so many. All keys of a stripe have the same remainder of their hashes, so it is mixed.
+/// Returns the slot of a hash among this many. All keys of a stripe have the same remainder of their hashes, so it is mixed.
 #[inline(always)]
 fn slot_of(slots: usize, hash: u32) -> usize
     requires { 0 < slots }

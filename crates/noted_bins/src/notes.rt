@@ -18,7 +18,7 @@ const FEW: u64 = 128;
 /// A key in the lists for this many entries.
 const PART: u64 = 1024;
 
-/// If the filter is on, the lists have room for so many times as many keys. If they are full then, all keys are noted.
+/// If the filter is on, the lists have room for this many times as many keys. If they are full then, all keys are noted.
 const MORE: u64 = 2;
 
 /// Slots for the positions of keys that were noted last.
@@ -183,7 +183,7 @@ impl Notes {
         }
     }
 
-    /// Turns the filter on, with a slot for each of so many entries, unless it is on. If a request for memory is refused, all
+    /// Turns the filter on, with a slot for each of this many entries, unless it is on. If a request for memory is refused, all
     /// keys are noted.
     fn turn_filter_on(&mut self, entries: u64)
         ensures { (table : Table) → KeepsNoted table self.old self.new }
@@ -272,7 +272,7 @@ fn slot_of(key: &HashedKey<'_>) -> usize
     (key.hash().wrapping_mul(0x9E37_79B1) >> 24) as usize % RECENT
 }
 
-/// Returns how many slots a filter of so many entries has.
+/// Returns how many slots a filter of this many entries has.
 fn slots_for(entries: u64) -> usize
     ensures { 0 < result }
 {

@@ -12,7 +12,7 @@ use std::marker::Model;
 /// How many tours follow one another, if keys go on changing fast, before the others are handed out at once.
 const MOST_TOURS: u32 = 4;
 
-/// A tour that follows another one takes so many times as many ranks at once: it has few keys, those that changed meanwhile.
+/// A tour that follows another one takes this many times as many ranks at once: it has few keys, those that changed meanwhile.
 const LATER_RANKS: usize = 4;
 
 /// The keys with an entry that a filter may have, from the highest rank down. No call on a key gives an entry that is there a higher
@@ -82,7 +82,7 @@ impl Tour {
         self.begun = self.begun.saturating_add(1);
     }
 
-    /// Returns the next ranks, if bins have this many entries: so many of them, or more if another tour came before this one.
+    /// Returns the next ranks, if bins have this many entries: at most `most`, or more if another tour came before this one.
     pub(crate) fn next_ranks(&self, most: usize, entries: usize) -> Ranks
         ensures { result.to ≡ self.now.below }
     {
@@ -98,7 +98,7 @@ impl Tour {
         }
     }
 
-    /// Leaves the keys at these ranks behind: they were handed out. If these were the last, the tour is over.
+    /// Passes the keys at these ranks: they were handed out. If these were the last, the tour is over.
     pub(crate) fn leave(&mut self, ranks: Ranks)
         requires next { ranks.to ≡ self.old.below }
         ensures { (order : List (List ℕ)) (table : Table) (key : List ℕ) → is_ahead self.new order table key ≡ false

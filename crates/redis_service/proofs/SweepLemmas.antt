@@ -15,7 +15,7 @@ use Rattle.redis_service.proofs.WalkLemmas.{Keeps, turns_keep}
 
 -- ---- one stripe
 
--- each of so many looks took an entry away
+-- each of this many looks took an entry away
 abbrev pub TookOften : ℕ → PassState → ℕ → ℕ → PassState → Type 0
 TookOften now old k often new = Chain (λ p answer q. ExpiresOne p k now answer q) old (replicate often Took) new
 

@@ -29,7 +29,7 @@ module _ (now : ℕ) (refuses : Bool) where
   AnswersEach talk old (said ∷ later) next new =
       (mid : TalkState) × (between : PassState) × (talk.is_over ≡ false) × AnswersSaid talk old said mid between × AnswersEach mid between later next new
 
-  -- the bytes begin with commands, which are answered by these bytes; this rest is behind them
+  -- the bytes begin with commands, which are answered by these bytes; this rest comes after them
   pub record AnswersSome (talk : TalkState) (old : PassState) (bytes written : List ℕ) (next : TalkState) (new : PassState)
       (rest : List ℕ) : Type 0 where
     pub said : List Said

@@ -28,7 +28,7 @@ has_row (Some bytes) deadline e = (bytes, (refl, some_same e))
     some_same : {x y : ℕ} → Some x ≡ Some y → x ≡ y
     some_same e = ap unwrapped e
 
--- what a list has behind its first element
+-- what a list has after its first element
 behind_first : {X : Type 0} (y x : X) (ys : List X) → Contains (y ∷ ys) x → (y ≡ x) ⊎ Contains ys x
 behind_first y x ys (zero, lt, e) = inl e
 behind_first y x ys (suc k, lt, e) = inr (k, omega (arith, lt), e)

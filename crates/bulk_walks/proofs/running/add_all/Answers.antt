@@ -1,4 +1,4 @@
-use Rattle.std.proofs.Common.{◌≡◌, ℕ, ◌<◌, ◌++◌, ◌∷◌, [], List, length, Bool, true, false, Result, Ok, Err, refl, sym, ap, subst, ◌∙◌, arith, Some}
+use Rattle.std.proofs.Common.{◌≡◌, ℕ, ◌<◌, ◌++◌, ◌∷◌, [], List, length, Bool, true, false, Result, Ok, Err, refl, sym, ap, subst, ◌∙◌, arith, Some, option_copied}
 use Rattle.bpf_model.specs.declared.input.InputPart.{InputPart}
 use Rattle.bpf_model.specs.declared.input.Answer.TheVariants.{Nothing}
 use Rattle.bpf_model.specs.Fits.{input_of}
@@ -8,7 +8,7 @@ use Rattle.atomic_methods.specs.declared.walk_reply.WalkKind.TheVariants.{ForEac
 use Rattle.atomic_methods.specs.Plans.{outcome_by}
 use Rattle.atomic_methods.proofs.WalkLemmas.{walked_none, walked_given, walked_none_given}
 use Rattle.std.proofs.lemmas.List.{append-nil, append_assoc}
-use Rattle.bulk_walks.proofs.SearchLemmas.{runs_on_all}
+use Rattle.bulk_walks.proofs.SearchLemmas.{runs_on_all, same_offer}
 use Rattle.bulk_walks.proofs.GatherLemmas.{adds_all}
 use Rattle.bulk_walks.proofs.running.add_all.Goals as goal
 use Rattle.bulk_walks.proofs.running.add_all.Goals.{in-Ok-true+in_ok-keep-in-Ok-true, in-Ok-false, in-Err}
@@ -31,7 +31,7 @@ loop-position-preserved c =
     let position = c.loop-position.position in
     let entry : Entry = (c.get.result.0.now, c.get.result.1.now) in
     let lt : position < length es = omega (arith, c.loop-position-test.true, c.len-count.ensures.value) in
-    let offered = c.answer.ensures.offered in
+    let offered = same_offer c.new-runner.result.program.now checked entry.0 entry.1 (option_copied c.new-runner.result.arg) arg true c.answer.result c.answer.new.bench.answer c.new-runner.ensures.program c.new-runner.ensures.arg c.answer.ensures.offered in
     let told = subst (λ o. ComesTo checked (input_of entry.0 (Some entry.1) arg) o) offered.tells offered.comes_to in
     let comes = λ (r : Result Bool InputPart) (is : c.answer.result ≡ r). subst (λ (r : Result Bool InputPart). ComesTo checked (input_of entry.0 (Some entry.1) arg) (outcome_by r c.answer.new.bench.answer)) is told in
     elim c.match-answer.branch [

@@ -1,10 +1,9 @@
-use Rattle.std.proofs.Common.{◌≡◌, ℕ, ◌<◌, ◌∷◌, [], List, length, Some, true, false, Result, Ok, Err, Bool, ap, subst, ◌∙◌, arith}
+use Rattle.std.proofs.Common.{◌≡◌, ℕ, ◌<◌, ◌∷◌, [], List, length, Some, true, false, Result, Ok, Err, Bool, option_copied, ap, sym, subst, ◌∙◌, arith}
 use Rattle.bpf_model.specs.declared.input.InputPart.{InputPart}
 use Rattle.bpf_model.specs.Fits.{input_of}
-use Rattle.bins.specs.Entries.{entry_of}
 use Rattle.bins.specs.Table.{Entry}
 use Rattle.bulk_walks.specs.Kept.{IsOffered}
-use Rattle.bulk_walks.proofs.SearchLemmas.{searched_none, searched_given, searched_past, searched_unfit, finds_first, Searched}
+use Rattle.bulk_walks.proofs.SearchLemmas.{searched_none, searched_given, searched_past, searched_unfit, same_offer, finds_first, Searched}
 use Rattle.bulk_walks.proofs.running.find_first.Goals as goal
 use Rattle.bulk_walks.proofs.running.find_first.Goals.{in-Ok-true, in-Ok-false, in-Err}
 
@@ -21,11 +20,12 @@ loop-position-preserved c =
     let position = c.loop-position.position in
     let entry : Entry = (c.get.result.0.now, c.get.result.1.now) in
     let lt : position < length es = omega (arith, c.loop-position-test.true, c.len-position-end.ensures.value) in
-    let offered = λ (r : Result Bool InputPart) (is : c.answer.result ≡ r). subst (λ (r : Result Bool InputPart). IsOffered checked (input_of entry.0 (Some entry.1) arg) c.is_after-wanted.result r c.answer.new.bench.answer) is c.answer.ensures.offered in
+    let offered = λ (r : Result Bool InputPart) (is : c.answer.result ≡ r). same_offer c.new-runner.result.program.now checked entry.0 entry.1 (option_copied c.new-runner.result.arg) arg c.is_after-wanted.result r c.answer.new.bench.answer c.new-runner.ensures.program c.new-runner.ensures.arg
+    (subst (λ (r : Result Bool InputPart). IsOffered c.new-runner.result.program.now (input_of entry.0 (Some entry.1) (option_copied c.new-runner.result.arg)) c.is_after-wanted.result r c.answer.new.bench.answer) is c.answer.ensures.offered) in
     let would = c.is_after-wanted.ensures in
     elim c.match-answer.branch [
       | in-Ok-true w ↦ rw (w.first-is, w.unfit-is) (record {
-        searched = subst (λ (bytes : List ℕ). Searched checked arg es (((entry_of es position).0, bytes) ∷ []) _ _) (cc)
+        searched = subst (λ (items : List Entry). Searched checked arg es items _ _) (sym (w.set.ensures ∙ ap (λ (bytes : List ℕ). (entry.0, bytes) ∷ []) w.as_slice.ensures.value))
             (searched_given checked arg es _ position _ before.searched lt entry c.get.ensures.entry _ would c.answer.new.bench.answer (offered (Ok true) (w.in-Ok-true.is ∙ ap Ok w.in-Ok-true.field-0-test)));
         bounded = omega (arith, before.bounded);
       })
