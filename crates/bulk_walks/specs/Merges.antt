@@ -1,10 +1,11 @@
 -- One reply from several.
-use Rattle.std.specs.Prelude.{◌≡◌, ◌<◌, ◌-◌, ◌^◌, ℕ, Bool, true, false, T, All, List, [], ◌∷◌, Option, MatchOption, length, map, drop, slice_index_or, slice_set, sum_by}
+use Rattle.std.specs.Prelude.{◌≡◌, ◌<◌, ◌≤◌, ◌-◌, ◌^◌, ℕ, Bool, true, false, T, All, List, [], ◌∷◌, Option, MatchOption, length, map, drop, slice_index_or, slice_set, sum_by}
 use Rattle.std.specs.FinMap as finmap
 use Rattle.std.specs.Ordering.{is_lt}
 use Rattle.bins.specs.declared.counts.Counts.{Counts}
-use Rattle.bins.specs.Entries.{entries_at}
-use Rattle.bins.specs.Fronts.{front}
+use Rattle.bpf_model.specs.declared.limits.TheConstants.{KEY_BYTES}
+use Rattle.bins.specs.Entries.{entries_at, entry_of}
+use Rattle.bins.specs.Fronts.{AreBytes, front}
 use Rattle.bins.specs.Merged.{entry_at}
 use Rattle.bins.specs.declared.merged_entries.EntryPosition.{EntryPosition}
 use Rattle.bins.specs.Table.{Entry, by_bytes}
@@ -50,6 +51,12 @@ comes_first (x ∷ one) (y ∷ other) = is_lt (by_bytes x.0 y.0)
 abbrev pub lead_of : List Entry → ℕ
 lead_of [] = 2 ^ 64 - 1
 lead_of (entry ∷ list) = front 8 entry.0
+
+-- this is the lead of an entry or of none, whose key is one of the map's
+pub record IsLed (lead : ℕ) (item : List Entry) : Type 0 where
+  pub is : lead ≡ lead_of item
+  pub bytes : AreBytes (entry_of item 0).0
+  pub fits : length (entry_of item 0).0 ≤ KEY_BYTES
 
 -- the first entry of one list was taken, and no other list begins with a lesser key
 pub record TakesFirst (old : List (List Entry)) (entry : Entry) (new : List (List Entry)) : Type 0 where

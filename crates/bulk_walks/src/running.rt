@@ -190,19 +190,16 @@ struct First<'e> {
 }
 
 impl<'e> Model for First<'e> {
-    ghost use Rattle.std.specs.Prelude.{◌≡◌, List, option_copied};
-    ghost use Rattle.bins.specs.Entries.{entry_of};
-    ghost use Rattle.bins.specs.Fronts.{AreBytes};
+    ghost use Rattle.std.specs.Prelude.{List, option_copied};
     ghost use Rattle.bins.specs.Table.{Entry};
     ghost use Rattle.bulk_walks.specs.Kept.{item_of};
-    ghost use Rattle.bulk_walks.specs.Merges.{lead_of};
+    ghost use Rattle.bulk_walks.specs.Merges.{IsLed};
 
     ghost Value = { List Entry };
 
     ghost view = { λ first. item_of (option_copied first.key) first.answer };
 
-    ghost invariant = { λ first. (first.lead ≡ lead_of (item_of (option_copied first.key) first.answer))
-        × AreBytes (entry_of (item_of (option_copied first.key) first.answer) 0).0 };
+    ghost invariant = { λ first. IsLed first.lead (item_of (option_copied first.key) first.answer) };
 }
 
 impl<'e> First<'e> {
@@ -255,7 +252,8 @@ impl<'e> First<'e> {
 
     /// Becomes this answer at this key.
     fn set(&mut self, key: &'e [u8], answer: &[u8])
-        requires { length answer.now ≤ VALUE_BYTES }
+        requires key { length key.now ≤ KEY_BYTES }
+        requires answer { length answer.now ≤ VALUE_BYTES }
         ensures { self.new ≡ (key.now, answer.now) ∷ [] }
     {
         self.key = Some(key);

@@ -8,7 +8,10 @@ use Rattle.bulk_walks.proofs.running.find_first.Goals as goal
 use Rattle.bulk_walks.proofs.running.find_first.Goals.{in-Ok-true, in-Ok-false, in-Err}
 
 pub loop-position-init : goal.loop-position-init
-loop-position-init c = record { searched = searched_none c.args.program.now c.args.arg.now c.args.entries.now; bounded = omega arith }
+loop-position-init c = record {
+  searched = subst (λ (items : List Entry). Searched c.args.program.now c.args.arg.now c.args.entries.now items 0 0) (sym c.new-first.ensures) (searched_none c.args.program.now c.args.arg.now c.args.entries.now);
+  bounded = omega arith;
+}
 
 -- one more entry: its answer is the first, or not, or the entry doesn't fit
 pub loop-position-preserved : goal.loop-position-preserved
