@@ -7,7 +7,7 @@ use Rattle.bpf_model.specs.declared.input.InputPart.{InputPart}
 use Rattle.bpf_model.specs.declared.input.Input.{Input}
 use Rattle.verifier.specs.Checked.{Checked}
 use Rattle.bins.specs.Copies.{comes_before, WeighSame}
-use Rattle.bins.specs.Entries.{entries_at, entry_of}
+use Rattle.bins.specs.Entries.{entries_at}
 use Rattle.bins.specs.Passes.{AreOutcomes}
 use Rattle.bins.specs.Replacements.{Outcome, ComesTo, is_unfit}
 use Rattle.bins.specs.Table.{Entry, by_bytes}
