@@ -3,9 +3,11 @@
 entries, at six lengths; what is left of it after all are removed, or after long values became short; how many entries fit in a bounded
 address space; how much walks that answer nothing need; and how much a reply needs that isn't read. Of bpfmap, if there is a valgrind: how many
 instructions a key takes that isn't random, beside a random one as long, also while keys of one hash are there, and after they went; and how many lines of
-the cache a Get lacks among many entries of one width.
+the cache a Get lacks among many entries of one width. Of bench, if there is a valgrind: how many instructions a Search takes for an entry that isn't its
+first.
 
-By hand, after `rt run` in crates/bpfmap and crates/mapd: python3 tests/entries.py. Other programs are tried by --bpfmap and --mapd."""
+By hand, after `rt run` in crates/bpfmap, crates/mapd and crates/bench: python3 tests/entries.py. Other programs are tried by --bpfmap, --mapd
+and --bench."""
 from __future__ import annotations
 
 import argparse
@@ -27,7 +29,8 @@ sys.path.insert(0, str(Path(__file__).resolve().parent))
 sys.dont_write_bytecode = True
 import wire  # noqa: E402
 
-BPFMAP = Path(__file__).resolve().parent.parent / "crates/bpfmap/out/bpfmap"
+CRATES = Path(__file__).resolve().parent.parent / "crates"
+BPFMAP, BENCH = CRATES / "bpfmap/out/bpfmap", CRATES / "bench/out/bench"
 # The bytes of a key and of a value, how many entries there are before as many more come, and the most bytes that one may take.
 SHAPES = [(8, 8, 200_000, 80), (16, 24, 150_000, 112), (16, 100, 100_000, 200), (32, 200, 60_000, 330), (48, 500, 30_000, 730),
           (64, 1024, 20_000, 1_300)]
@@ -47,6 +50,8 @@ COPYING += bytes.fromhex("b700000060000000 9500000000000000")
 KEYS = 20_000
 # A Get among this many entries lacks at most this many lines of a cache of 1 MiB. If it read the location of each row, it would lack 4.3.
 LINED, LACKED = 100_000, 3.2
+# entries of a search, and how many instructions it may take for each
+SEARCHED, PASSED = 100_000, 100
 MEBIBYTE = 1 << 20
 SEARCH, FOR_EACH = 0x20, 0x21
 NO_MEMORY = wire.frame(wire.refused(9))
@@ -186,29 +191,37 @@ def try_unread(program: Path) -> None:
             raise wire.Wrong("the reply that was read late is another one")
 
 
-def counted(program: Path, bodies: Iterable[bytes], tool: list[str], number: bytes) -> int:
-    """A number that a tool of valgrind tells of `bpfmap exec` for these requests."""
-    sent = wire.frames([wire.hello(2), *bodies])
+def told(words: list[str], sent: bytes, tool: list[str], number: bytes) -> int:
+    """A number that a tool of valgrind tells of a program that reads these bytes."""
     with tempfile.TemporaryFile() as file:
         file.write(sent)
         file.seek(0)
-        run = subprocess.run(["valgrind", *tool, str(program), "exec", "--stripes", "1"], stdin=file, capture_output=True, timeout=600,
-                             check=False)
+        run = subprocess.run(["valgrind", *tool, *words], stdin=file, capture_output=True, timeout=600, check=False)
     found = re.search(number, run.stderr)
     if run.returncode != 0 or found is None or NO_MEMORY in run.stdout:
         raise wire.Failed(f"status {run.returncode}: {run.stderr[-300:]}")
     return int(found[1].replace(b",", b""))
 
 
+def steps(words: list[str], sent: bytes) -> int:
+    """How many instructions a program takes that reads these bytes."""
+    return told(words, sent, ["--tool=callgrind", "--callgrind-out-file=/dev/null"], rb"Collected : (\d+)")
+
+
+def exec_on(program: Path, bodies: Iterable[bytes]) -> tuple[list[str], bytes]:
+    """The words of `bpfmap exec`, and what it reads, for these requests."""
+    return [str(program), "exec", "--stripes", "1"], wire.frames([wire.hello(2), *bodies])
+
+
 def instructions(program: Path, bodies: Iterable[bytes]) -> int:
     """How many instructions `bpfmap exec` takes for these requests."""
-    return counted(program, bodies, ["--tool=callgrind", "--callgrind-out-file=/dev/null"], rb"Collected : (\d+)")
+    return steps(*exec_on(program, bodies))
 
 
 def lines_lacked(program: Path, bodies: Iterable[bytes]) -> int:
     """How many lines a cache of 1 MiB lacks for these requests."""
     tool = ["--tool=cachegrind", "--cache-sim=yes", "--LL=1048576,16,64", "--cachegrind-out-file=/dev/null"]
-    return counted(program, bodies, tool, rb"LLd misses: +([\d,]+)")
+    return told(*exec_on(program, bodies), tool, rb"LLd misses: +([\d,]+)")
 
 
 def try_lines(program: Path) -> None:
@@ -219,6 +232,12 @@ def try_lines(program: Path) -> None:
     gets = [wire.get(key) for key in keys]
     most(f"lines of the cache that a Get lacks among {LINED} entries",
          (lines_lacked(program, puts + gets) - lines_lacked(program, puts)) / LINED, LACKED)
+
+
+def try_searches(program: Path) -> None:
+    """Bounds what a Search takes for each entry if all have answers: nearly all of them can't be its first."""
+    once, thrice = (steps([str(program), "walk", "search", "1", str(SEARCHED), walks], b"") for walks in ("1", "3"))
+    most("instructions of an entry that a Search passes", (thrice - once) / (2 * SEARCHED), PASSED)
 
 
 def used(keys: Iterable[bytes]) -> list[bytes]:
@@ -267,6 +286,7 @@ def main() -> None:
     words = argparse.ArgumentParser(description=__doc__)
     words.add_argument("--bpfmap", type=Path, default=BPFMAP)
     words.add_argument("--mapd", type=Path, default=wire.SERVER)
+    words.add_argument("--bench", type=Path, default=BENCH)
     asked = words.parse_args()
     try:
         for shape in SHAPES:
@@ -278,6 +298,7 @@ def main() -> None:
         if shutil.which("valgrind"):
             try_keys(asked.bpfmap)
             try_lines(asked.bpfmap)
+            try_searches(asked.bench)
         else:
             print("entries: no valgrind here, so neither instructions nor lines of the cache were counted")
     except (wire.Wrong, wire.Failed, wire.Ended) as failure:
