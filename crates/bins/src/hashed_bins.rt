@@ -308,6 +308,23 @@ fn value_at(rows: &Rows, position: usize) -> &[u8]
     rows.value(position)
 }
 
+/// The value at a position, if the key stands there.
+#[inline(always)]
+fn found_at<'a>(rows: &'a Rows, position: usize, key: &Key) -> Option<Found<'a>>
+    requires { position < length rows.now.keys }
+    ensures position { IfSome result (λ found. found.position ≡ position) }
+    ensures found { IfSome result (λ found. string_at rows.now.keys position ≡ key.now) }
+    ensures value { IfSome result (λ found. found.value.now ≡ string_at rows.now.values position) }
+    ensures fits { IfSome result (λ found. length found.value.now ≤ VALUE_BYTES) }
+    ensures absent { IfNone result (string_at rows.now.keys position ≢ key.now) }
+{
+    let (stored, value) = rows.entry(position);
+    if are_same(stored, key.as_slice()) {
+        return Some(Found { position, value });
+    }
+    None
+}
+
 /// Where the key with this hash is found.
 #[inline(always)]
 fn found_with<'a>(index: &Index, rows: &'a Rows, key: &Key, hash: u64) -> Option<Found<'a>>
@@ -319,17 +336,20 @@ fn found_with<'a>(index: &Index, rows: &'a Rows, key: &Key, hash: u64) -> Option
     ensures fits { IfSome result (λ found. length found.value.now ≤ VALUE_BYTES) }
     ensures absent { IfNone result (AllWithin (λ k. k ≢ key.now) rows.now.keys 0 (length rows.now.keys)) }
 {
-    let last = index.last(hash)?;
-    let (stored, value) = rows.entry(last);
-    if are_same(stored, key.as_slice()) {
-        return Some(Found {
-            position: last,
-            value,
-        });
+    if let Some(likely) = index.likely(hash)
+        && let Some(found) = found_at(rows, likely, key)
+    {
+        return Some(found);
     }
-    let position = position_before(index, rows, key, hash, last)?;
-    let value = value_at(rows, position);
-    Some(Found { position, value })
+    let last = index.last(hash)?;
+    match found_at(rows, last, key) {
+        Some(found) => Some(found),
+        None => {
+            let position = position_before(index, rows, key, hash, last)?;
+            let value = value_at(rows, position);
+            Some(Found { position, value })
+        }
+    }
 }
 
 /// Where the tree finds a key.

@@ -4,8 +4,9 @@
 //! ends a chain. So positions fall along a chain, and the hashes alone determine the heads and the nexts (`AreChained` of
 //! `specs/Chains.antt`). Bins are added one at a time: a new bin takes its positions out of the chain of one bin, and the
 //! other chains stay as they are. So no call is held up while the bins grow. The hash of a position and its next lie side by
-//! side, so a search finds both in one cache line.
-ghost use Rattle.std.specs.Prelude.{◌≡◌, ◌<◌, ◌*◌, ◌++◌, [], ◌∷◌, length, slice_index, IfOk, OnOk, OnErr, ◌≤◌, ◌+◌, ◌-◌, ℕ, set, IsTrue, take};
+//! side, so a search finds both in one cache line. A head has some bits of the hash at its position, so it mostly tells a
+//! search whether that position is the right one, before the record is read.
+ghost use Rattle.std.specs.Prelude.{◌≡◌, ◌<◌, ◌*◌, ◌++◌, [], ◌∷◌, length, slice_index, IfOk, IfSome, OnOk, OnErr, ◌≤◌, ◌+◌, ◌-◌, ℕ, set, IsTrue, take};
 ghost use Rattle.std.specs.List.{swap_remove};
 ghost use Rattle.bins.specs.Chains.{IsCrowded, IsLastOf, MayDouble, AreChained, AreLinked, AreLinkedAt, AreLinkedBy, AreSpread, IsLast, IsLink, IsLinkTo, Moved, Relinked, bin_in, bin_of, bins_of, follow, position_bin};
 ghost use Rattle.bins.specs.Mixed.{mixed};
@@ -13,6 +14,7 @@ ghost use Rattle.bins.specs.Told.{IsBinCount};
 
 use crate::growth::make_room;
 use crate::hashes::{Seed, mixed_hash};
+use crate::heads::{HeadWord, MOST_POSITIONS};
 use crate::told_size::ToldSize;
 use bpf_model::NoMemory;
 use std::alloc::Global;
@@ -104,6 +106,15 @@ impl Index {
         ensures value { IsLastOf self.now.hashes (length self.now.hashes) hash result }
     {
         self.chains.last(hash)
+    }
+
+    /// Returns the last position in the bin of a hash, if the bits in the bin's head are those of the hash. Mostly the hash stands there,
+    /// but no clause says so. Takes no memory.
+    #[inline(always)]
+    pub fn likely(&self, hash: u64) -> Option<usize>
+        ensures range { IfSome result (λ position. position < length self.now.hashes) }
+    {
+        self.chains.likely(hash)
     }
 
     /// Returns the last position before this one that has the same hash. Takes no memory.
@@ -203,7 +214,7 @@ pub const MOST_HALF: usize = 1 << 60;
 #[derive(Drop)]
 pub struct Chains {
     half: usize,
-    heads: Vec<usize>,
+    heads: Vec<HeadWord>,
     records: Records,
 }
 
@@ -239,17 +250,27 @@ fn half_for(half: usize, bins: usize) -> usize
     if bins == 2 * half { bins } else { half }
 }
 
+/// Returns the heads of the first bins, without positions. Returns `NoMemory` if a request for memory is refused.
+fn first_heads(alloc: Global) -> Result<Vec<HeadWord>, NoMemory>
+    ensures bins { IfOk result (λ heads. length heads.items ≡ FIRST_HEADS) }
+    ensures none { IfOk result (λ heads. (bin : ℕ) → slice_index heads.items bin ≡ 0) }
+{
+    let mut heads = Vec::with_capacity(alloc, FIRST_HEADS)?;
+    while heads.len() < FIRST_HEADS {
+        heads.push_reserved(HeadWord::none());
+    }
+    Ok(heads)
+}
+
 impl Chains {
     /// Makes chains without positions, in 8 bins. Returns `NoMemory` if a request for memory is refused.
     pub fn open(alloc: Global) -> Result<Chains, NoMemory>
         ensures chained { IfOk result AreChained }
         ensures empty { IfOk result (λ chains. chains.records.hashes ≡ []) }
     {
-        let mut heads = Vec::new(alloc);
-        heads.resize(FIRST_HEADS, 0)?;
         Ok(Chains {
             half: FIRST_HEADS,
-            heads,
+            heads: first_heads(alloc)?,
             records: Records::new(alloc),
         })
     }
@@ -333,7 +354,20 @@ impl Chains {
         ensures value { IsLastOf self.now.records.hashes (length self.now.records.hashes) hash result }
     {
         let bin = bin_of(self.half, self.heads.len(), hash);
-        self.find_from(self.heads[bin], hash)
+        self.find_from(self.heads[bin].at(), hash)
+    }
+
+    /// Returns the last position in the bin of a hash, if the bits in the bin's head are those of the hash. Takes no memory.
+    #[inline(always)]
+    pub fn likely(&self, hash: u64) -> Option<usize>
+        requires chained { AreChained self.now }
+        ensures range { IfSome result (λ position. position < length self.now.records.hashes) }
+    {
+        let head = &self.heads[bin_of(self.half, self.heads.len(), hash)];
+        if !head.has_bits_of(hash) {
+            return None;
+        }
+        head.at().checked_sub(1)
     }
 
     /// Returns the last position before this one that has the same hash. Takes no memory.
@@ -355,8 +389,8 @@ impl Chains {
         ensures err { OnErr result (self.new.records.hashes ≡ self.old.records.hashes) }
     {
         let bin = bin_of(self.half, self.heads.len(), hash);
-        self.records.push(hash, self.heads[bin])?;
-        self.heads[bin] = self.records.len();
+        self.records.push(hash, self.heads[bin].at())?;
+        self.heads[bin] = HeadWord::new(self.records.len(), hash);
         Ok(())
     }
 
@@ -370,7 +404,7 @@ impl Chains {
             → IsLinkTo bins (length self.now.records.nexts) bin position result }
     {
         let mut link = Link::Head(bin);
-        let mut at = self.heads[bin];
+        let mut at = self.heads[bin].at();
         while at.saturating_sub(1) > position {
             link = Link::Next(at - 1);
             at = self.records.next(at - 1);
@@ -384,18 +418,33 @@ impl Chains {
         ensures value { result ≡ follow self.now.heads.items self.now.records.nexts link }
     {
         match link {
-            Link::Head(bin) => self.heads[bin],
+            Link::Head(bin) => self.heads[bin].at(),
             Link::Next(position) => self.records.next(position),
         }
     }
 
+    /// Returns the head of a bin that leads to this position, counted from 1, or to none.
+    fn head_to(&self, at: usize) -> HeadWord
+        requires few { at < MOST_POSITIONS }
+        ensures { result ≡ at }
+    {
+        let position = at.wrapping_sub(1);
+        let hash = if position < self.records.len() {
+            self.records.hash(position)
+        } else {
+            0
+        };
+        HeadWord::new(at, hash)
+    }
+
     /// Makes a link lead elsewhere.
     fn relink(&mut self, link: Link, at: usize)
-        requires { IsLink self.old link }
+        requires link { IsLink self.old link }
+        requires few { at < MOST_POSITIONS }
         ensures value { Relinked link at self.old self.new }
     {
         match link {
-            Link::Head(bin) => self.heads[bin] = at,
+            Link::Head(bin) => self.heads[bin] = self.head_to(at),
             Link::Next(position) => self.records.set_next(position, at),
         }
     }
@@ -454,7 +503,7 @@ impl Chains {
     {
         let bins = self.heads.len();
         let from = into - self.half;
-        let mut at = self.heads[from];
+        let mut at = self.heads[from].at();
         while at != 0 {
             let here = at;
             at = self.records.next(here - 1);
@@ -473,7 +522,7 @@ impl Chains {
     {
         let bins = self.heads.len();
         make_room(&mut self.heads, HEAD_BYTES)?;
-        self.heads.push_reserved(0);
+        self.heads.push_reserved(HeadWord::none());
         self.half = half_for(self.half, bins);
         self.part(bins);
         Ok(())
@@ -523,7 +572,7 @@ impl Chains {
         let position = self.records.len() - 1;
         let hash = self.records.hash(position);
         let bin = bin_of(self.half, self.heads.len(), hash);
-        self.heads[bin] = self.records.next(position);
+        self.heads[bin] = self.head_to(self.records.next(position));
         self.records.remove_last();
         hash
     }
@@ -575,8 +624,9 @@ pub struct Records {
 }
 
 impl Model for Records {
-    ghost use Rattle.std.specs.Prelude.{map};
+    ghost use Rattle.std.specs.Prelude.{map, length, ◌<◌};
     ghost use Rattle.bins.specs.Records.{Recorded};
+    ghost use Rattle.bins.specs.declared.heads.TheConstants.{MOST_POSITIONS};
 
     ghost Value = { Recorded };
 
@@ -584,6 +634,8 @@ impl Model for Records {
       hashes = map (λ kept. kept.hash) records.list.items;
       nexts = map (λ kept. kept.next) records.list.items;
     } };
+
+    ghost invariant = { λ records. length records.list.items < MOST_POSITIONS };
 }
 
 impl Records {
@@ -602,6 +654,7 @@ impl Records {
     pub fn len(&self) -> usize
         ensures hashes { result ≡ length self.now.hashes }
         ensures nexts { result ≡ length self.now.nexts }
+        ensures few { result < MOST_POSITIONS }
     {
         self.list.len()
     }
@@ -619,7 +672,8 @@ impl Records {
     #[inline(always)]
     pub fn next(&self, position: usize) -> usize
         requires { position < length self.now.nexts }
-        ensures { result ≡ slice_index self.now.nexts position }
+        ensures value { result ≡ slice_index self.now.nexts position }
+        ensures few { length self.now.nexts < MOST_POSITIONS }
     {
         self.list[position].next
     }
@@ -642,12 +696,16 @@ impl Records {
         self.list[position].next = next;
     }
 
-    /// Adds a position after the others. Returns `NoMemory` if memory for it is refused; nothing changes then.
+    /// Adds a position after the others. Returns `NoMemory` if memory for it is refused, or there would be `MOST_POSITIONS`; nothing changes
+    /// then.
     pub fn push(&mut self, hash: u64, next: usize) -> Result<(), NoMemory>
         ensures ok_hashes { OnOk result (self.new.hashes ≡ self.old.hashes ++ hash ∷ []) }
         ensures ok_nexts { OnOk result (self.new.nexts ≡ self.old.nexts ++ next ∷ []) }
         ensures err { OnErr result (self.new ≡ self.old) }
     {
+        if self.list.len() as u64 >= MOST_POSITIONS - 1 {
+            return Err(NoMemory);
+        }
         make_room(&mut self.list, size_of::<Record>())?;
         self.list.push_reserved(Record { hash, next });
         Ok(())

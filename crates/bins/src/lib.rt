@@ -19,6 +19,7 @@ mod entry_list;
 mod growth;
 mod hashed_bins;
 mod hashes;
+mod heads;
 mod index;
 mod lent_entries;
 mod list_bins;

@@ -22,4 +22,4 @@ part-requires-clause-linked c =
     links_alike (bins_of half bins hashes) (bins_of c.half_for-self.result bins hashes) (length nexts) c.push_reserved.new.self.items nexts
     (λ j high. c.half_for-self.ensures.same (slice_index hashes j))
     (links_widened (bins_of half bins hashes) (length nexts) heads nexts c.push_reserved.new.self.items links
-    (λ j. subst (λ (n : ℕ). bins_of half bins hashes j < n) count (bin_within half bins (slice_index hashes j) spread)) (c.push_reserved.ensures.items ∙ ap (λ (xs : List ℕ). xs ++ 0 ∷ []) c.make_room.ensures.same))
+    (λ j. subst (λ (n : ℕ). bins_of half bins hashes j < n) count (bin_within half bins (slice_index hashes j) spread)) (c.push_reserved.ensures.items ∙ ap (λ (n : ℕ). c.make_room.new.list.items ++ n ∷ []) c.none.ensures ∙ ap (λ (xs : List ℕ). xs ++ 0 ∷ []) c.make_room.ensures.same))

@@ -8,7 +8,7 @@ use Rattle.bins.proofs.index.Chains.move_to.Goals.{After-relink}
 taken_out : (c : After-relink) (bin : ℕ → ℕ) → Links bin (length c.args.self.now.records.nexts) c.args.self.now.heads.items c.args.self.now.records.nexts → bin (c.args.at - 1) ≡ c.args.from
     → Links (hidden bin (c.args.at - 1) (length c.args.self.now.heads.items)) (length c.relink.new.self.records.nexts) c.relink.new.self.heads.items c.relink.new.self.records.nexts
 taken_out c bin is e = moved_out bin c.args.self.now.heads.items c.args.self.now.records.nexts c.relink.new.self.heads.items c.relink.new.self.records.nexts (c.args.at - 1) c.args.from c.next-next.result c.link_to-old_link.result
-    is (omega (arith, c.requires.some, c.requires.range)) e c.requires.from c.next-next.ensures (c.link_to-old_link.ensures.leads bin is) c.relink.ensures.value.heads c.relink.ensures.value.nexts
+    is (omega (arith, c.requires.some, c.requires.range)) e c.requires.from c.next-next.ensures.value (c.link_to-old_link.ensures.leads bin is) c.relink.ensures.value.heads c.relink.ensures.value.nexts
 
 pub link_to-old_link-requires-clause-linked : goal.link_to-old_link-requires-clause-linked
 link_to-old_link-requires-clause-linked c = (c.requires.linked.0, c.requires.linked.1)

@@ -15,7 +15,7 @@ loop-at-init c =
     let old : ℕ → ℕ = bins_of half c.args.into hashes in
     let new : ℕ → ℕ = bins_of half (c.args.into + 1) hashes in
     let inside : c.args.into - half < length c.args.self.now.heads.items = omega (arith, c.requires.bins) in
-    let read = get_or_read c.args.self.now.heads.items (c.args.into - half) c.index-at.result.now inside c.index-at.ensures 0 in
+    let read = c.at-at.ensures.value ∙ get_or_read c.args.self.now.heads.items (c.args.into - half) c.index.result.now inside c.index.ensures 0 in
     let last = last_at old (length c.args.self.now.records.nexts) (c.args.into - half) _ _ (sym read) (c.requires.linked.at_heads (c.args.into - half) inside) in
     record {
       half = refl;
@@ -25,7 +25,7 @@ loop-at-init c =
       range = last.range;
       there = last.there;
       linked = none_parted old new (c.args.into - half) (λ j. bin_same half c.args.into c.requires.spread c.requires.few (slice_index hashes j))
-          (length c.args.self.now.records.nexts) c.index-at.result.now c.args.self.now.heads.items c.args.self.now.records.nexts c.requires.linked last;
+          (length c.args.self.now.records.nexts) c.at-at.result c.args.self.now.heads.items c.args.self.now.records.nexts c.requires.linked last;
     }
 
 some : (c : After-bin_of) → 0 < c.loop-at.at
@@ -43,7 +43,7 @@ next_last c =
     to_come old new c.loop-at.at (c.loop-at.at - 1) (omega (arith, pos)) ∙ before.there pos in
     let high : c.loop-at.at - 1 < length c.loop-at.self.records.nexts = omega (arith, pos, before.range) in
     let in_range : between old new c.loop-at.at (c.loop-at.at - 1) < length c.loop-at.self.heads.items = omega (arith, there, before.bins, c.requires.bins) in
-    last_at (between old new c.loop-at.at) (c.loop-at.at - 1) (c.args.into - c.args.self.now.half) _ _ (sym c.next-at.ensures)
+    last_at (between old new c.loop-at.at) (c.loop-at.at - 1) (c.args.into - c.args.self.now.half) _ _ (sym c.next-at.ensures.value)
     (last_in (between old new c.loop-at.at) (c.loop-at.at - 1) _ _ _ there (before.linked.at_nexts (c.loop-at.at - 1) high in_range))
 
 -- the bin that was computed
