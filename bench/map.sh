@@ -1,10 +1,10 @@
 #!/usr/bin/env bash
-# Times calls on a map that threads share beside a good map in C, bench/table.c, with the same stripes and locks of the same kind;
-# then requests of a session over memory, and walks by teams: nine times in turn, and prints the medians. Where it compares two it
-# prints the least times too, since what else the machine does only adds to a time. (Of calls by several threads they say little:
-# threads that happen to run one after the other don't wait for each other.) By hand, not by the gate. It takes some minutes, since
-# each start with a million keys enters them first, and it stops after seven. If a program is built, it takes longer, since all below
-# it is proved first.
+# Times calls on a map that threads share beside a good map in C, bench/table.c, with the same stripes and locks of the same kind. There a
+# merge is an addition; its kind `run` is a program too, which a switch runs. Then requests of a session over memory, and walks by teams:
+# nine times in turn, and prints the medians. Where it compares two it prints the least times too, since what else the machine does only
+# adds to a time. (Of calls by several threads they say little: threads that happen to run one after the other don't wait for each
+# other.) By hand, not by the gate. It takes some minutes, since each start with a million keys enters them first, and it stops after
+# seven. If a program is built, it takes longer, since all below it is proved first.
 source "$(dirname "$0")/common.sh"
 rounds=9
 SECONDS=0
@@ -29,17 +29,17 @@ median() { sort -n "$1" | sed -n $((rounds / 2 + 1))p; }
 # and the least
 least() { sort -n "$1" | sed -n 1p; }
 
-# what is measured, kind, keys, threads, how many calls each thread makes
+# what is measured, kind, keys, threads, how many calls each thread makes, and C's kind if that is another
 measure_calls() {
     local answer other
     answer=$(side calls "$2" "$3" "$4" 100)
-    other=$(side table "$2" "$3" "$4" 100)
+    other=$(side table "${6:-$2}" "$3" "$4" 100)
     [ "$answer" = "$other" ] || { echo "$2 $3 $4: the map answers '$answer', C '$other'" >&2; exit 1; }
     : > "$work/map.times"
     : > "$work/table.times"
     for _ in $(seq $rounds); do
         elapsed "$5" calls "$2" "$3" "$4" >> "$work/map.times"
-        elapsed "$5" table "$2" "$3" "$4" >> "$work/table.times"
+        elapsed "$5" table "${6:-$2}" "$3" "$4" >> "$work/table.times"
     done
     echo "$(median "$work/map.times") $(median "$work/table.times") $(least "$work/map.times") $(least "$work/table.times")" |
         awk -v calls=$(($4 * $5)) -v what="$1" '{
@@ -80,6 +80,9 @@ for kind in get put merge; do
     for keys in 100000 1000000; do
         measure_calls "$kind, $keys scattered keys, 1 threads" $kind scattered=$keys 1 1000000
     done
+done
+for keys in 1000 scattered=100000 scattered=1000000; do
+    measure_calls "merge, $keys keys, 1 threads, beside a program in C" merge $keys 1 1000000 run
 done
 measure_calls "merge, a key for each of 4 threads, in stripes side by side" merge near 4 1000000
 measure_calls "merge, a key for each of 4 threads, in stripes 8 apart" merge apart 4 1000000

@@ -2,8 +2,11 @@
    alone in 128 bytes, taken by a compare-exchange and released by an exchange. A thread that waits yields ten times, then
    sleeps between tries, for as long as ours does; in our map it also goes first if it has waited for long. In a stripe, entries are chained in
    buckets by a second hash, and there are never more entries than buckets. Each entry is allocated in its exact size, and a call
-   copies just the bytes of its answer. Merging adds the numbers, without a program. Numbers have the low byte first, as on x86-64.
+   copies just the bytes of its answer. `merge` adds the numbers, without a program; `run` merges by the program of the sum, which the switch of
+   interpreter.c runs without any test. Numbers have the low byte first, as on x86-64.
    table KIND KEYS THREADS COUNT does what `bench calls` does with these words, and prints the same. */
+#define LIBRARY
+#include "interpreter.c"
 #include <endian.h>
 #include <pthread.h>
 #include <sched.h>
@@ -52,7 +55,12 @@ struct stripe {
     size_t mask, count;
 };
 
-enum kind { GET, PUT, MERGE };
+enum kind { GET, PUT, MERGE, RUN };
+
+/* adds the argument to the old value; the answer has eight bytes */
+static const struct insn sum_program[] = {
+    {.code = LDXDW, .dst = 0, .src = 2}, {.code = LDXDW, .dst = 9, .src = 3}, {.code = ADD64X, .dst = 0, .src = 9},
+    {.code = STXDW, .dst = 4, .src = 0}, {.code = MOV64K, .dst = 0, .imm = 8}, {.code = EXIT}};
 
 /* all threads call this many keys, scattered or rising; or each calls one of its own, in stripes this far apart */
 struct keys {
@@ -221,6 +229,16 @@ static void write_answer(struct value *answer, const void *bytes, size_t size)
     memcpy(answer->bytes, bytes, size);
 }
 
+/* the value that the program gives takes the place of the old one, and is the answer */
+static void run_program(struct entry **link, const struct value *value, struct value *answer)
+{
+    memcpy(key, (*link)->bytes, (*link)->key_size);
+    memcpy(old, (*link)->bytes + (*link)->key_size, (*link)->value_size);
+    memcpy(arg, value->bytes, value->size);
+    answer->size = run(sum_program, sizeof sum_program / sizeof *sum_program, answer->bytes);
+    set(link, answer->bytes, answer->size);
+}
+
 /* a call on a key that is there */
 static void call_present(enum kind kind, struct entry **link, const struct value *value, struct value *answer)
 {
@@ -230,6 +248,10 @@ static void call_present(enum kind kind, struct entry **link, const struct value
         uint64_t sum = number_of(old, old_size) + number_of(value->bytes, value->size);
         set(link, &sum, sizeof sum);
         write_answer(answer, &sum, sizeof sum);
+        return;
+    }
+    if (kind == RUN) {
+        run_program(link, value, answer);
         return;
     }
     write_answer(answer, old, old_size);
@@ -254,9 +276,9 @@ static __attribute__((noinline)) bool call(enum kind kind, const struct key *key
             grow(stripe);
     }
     release(stripe);
-    if (!found && kind == MERGE)
+    if (!found && kind >= MERGE)
         write_answer(answer, value->bytes, value->size);
-    return found || kind == MERGE;
+    return found || kind >= MERGE;
 }
 
 static void make_key(struct keys keys, uint64_t number, struct key *key)
@@ -283,7 +305,7 @@ static uint64_t number_at(const struct work *work, uint64_t turn)
 
 static const struct value one = {.size = 8, .bytes = {1}};
 
-static void *run(void *given)
+static void *call_all(void *given)
 {
     const struct work *work = given;
     struct key key;
@@ -341,15 +363,15 @@ static struct keys keys_named(const char *word)
 
 static bool read_words(char **words, struct work *work, uint64_t *threads)
 {
-    static const char *const kinds[] = {"get", "put", "merge"};
+    static const char *const kinds[] = {"get", "put", "merge", "run"};
     int kind = 0;
-    while (kind < 3 && strcmp(words[1], kinds[kind]))
+    while (kind <= RUN && strcmp(words[1], kinds[kind]))
         kind++;
     work->kind = kind;
     work->keys = keys_named(words[2]);
     *threads = strtoull(words[3], NULL, 10);
     work->count = strtoull(words[4], NULL, 10);
-    return kind < 3 && (work->keys.apart || work->keys.shared) && *threads > 0 && *threads <= MOST_THREADS;
+    return kind <= RUN && (work->keys.apart || work->keys.shared) && *threads > 0 && *threads <= MOST_THREADS;
 }
 
 int main(int words, char **word)
@@ -358,7 +380,7 @@ int main(int words, char **word)
     pthread_t started[MOST_THREADS];
     uint64_t threads;
     if (words != 5 || !read_words(word, &plan, &threads)) {
-        fprintf(stderr, "table get|put|merge KEYS|near|apart|scattered=KEYS THREADS COUNT\n");
+        fprintf(stderr, "table get|put|merge|run KEYS|near|apart|scattered=KEYS THREADS COUNT\n");
         return 2;
     }
     open_stripes();
@@ -367,7 +389,7 @@ int main(int words, char **word)
     for (uint64_t i = 0; i < threads; i++) {
         works[i] = plan;
         works[i].worker = i;
-        if (pthread_create(&started[i], NULL, run, &works[i]))
+        if (pthread_create(&started[i], NULL, call_all, &works[i]))
             abort();
     }
     for (uint64_t i = 0; i < threads; i++)

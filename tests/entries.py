@@ -48,8 +48,9 @@ COPYING = b"".join(bytes([0x79, 0x20, at, 0, 0, 0, 0, 0, 0x7b, 0x04, at, 0, 0, 0
 COPYING += bytes.fromhex("b700000060000000 9500000000000000")
 # How many keys of each kind are put and read.
 KEYS = 20_000
-# A Get among this many entries lacks at most this many lines of a cache of 1 MiB. If it read the location of each row, it would lack 4.3.
-LINED, LACKED = 100_000, 3.2
+# A Get among this many entries lacks at most this many lines of a cache of 1 MiB. If it read a record each time, it would lack 2.8, and with the
+# location of each row 4.3.
+LINED, LACKED = 100_000, 2.6
 # entries of a search, and how many instructions it may take for each
 SEARCHED, PASSED = 100_000, 100
 MEBIBYTE = 1 << 20
