@@ -4,8 +4,8 @@
 //! ends a chain. So positions fall along a chain, and the hashes alone determine the heads and the nexts (`AreChained` of
 //! `specs/Chains.antt`). Bins are added one at a time: a new bin takes its positions out of the chain of one bin, and the
 //! other chains stay as they are. So no call is held up while the bins grow. The hash of a position and its next lie side by
-//! side, so a search finds both in one cache line. A head has some bits of the hash at its position, so it mostly tells a
-//! search whether that position is the right one, before the record is read.
+//! side, so a search finds both in one cache line. Heads and nexts have some bits of the hash where they lead to, so they mostly tell a
+//! search which position is the right one, and it needn't read what is kept of that one here.
 ghost use Rattle.std.specs.Prelude.{◌≡◌, ◌<◌, ◌*◌, ◌++◌, [], ◌∷◌, length, slice_index, IfOk, IfSome, OnOk, OnErr, ◌≤◌, ◌+◌, ◌-◌, ℕ, set, IsTrue, take};
 ghost use Rattle.std.specs.List.{swap_remove};
 ghost use Rattle.bins.specs.Chains.{IsCrowded, IsLastOf, MayDouble, AreChained, AreLinked, AreLinkedAt, AreLinkedBy, AreSpread, IsLast, IsLink, IsLinkTo, Moved, Relinked, bin_in, bin_of, bins_of, follow, position_bin};
@@ -14,7 +14,7 @@ ghost use Rattle.bins.specs.Told.{IsBinCount};
 
 use crate::growth::make_room;
 use crate::hashes::{Seed, mixed_hash};
-use crate::heads::{HeadWord, MOST_POSITIONS};
+use crate::links::{LinkWord, MOST_POSITIONS};
 use crate::told_size::ToldSize;
 use bpf_model::NoMemory;
 use std::alloc::Global;
@@ -108,7 +108,7 @@ impl Index {
         self.chains.last(hash)
     }
 
-    /// Returns the last position in the bin of a hash, if the bits in the bin's head are those of the hash. Mostly the hash stands there,
+    /// Returns the first position along the chain of a hash's bin to which a link with bits of the hash leads. Mostly the hash stands there,
     /// but no clause says so. Takes no memory.
     #[inline(always)]
     pub fn likely(&self, hash: u64) -> Option<usize>
@@ -214,7 +214,7 @@ pub const MOST_HALF: usize = 1 << 60;
 #[derive(Drop)]
 pub struct Chains {
     half: usize,
-    heads: Vec<HeadWord>,
+    heads: Vec<LinkWord>,
     records: Records,
 }
 
@@ -251,13 +251,13 @@ fn half_for(half: usize, bins: usize) -> usize
 }
 
 /// Returns the heads of the first bins, without positions. Returns `NoMemory` if a request for memory is refused.
-fn first_heads(alloc: Global) -> Result<Vec<HeadWord>, NoMemory>
+fn first_heads(alloc: Global) -> Result<Vec<LinkWord>, NoMemory>
     ensures bins { IfOk result (λ heads. length heads.items ≡ FIRST_HEADS) }
     ensures none { IfOk result (λ heads. (bin : ℕ) → slice_index heads.items bin ≡ 0) }
 {
     let mut heads = Vec::with_capacity(alloc, FIRST_HEADS)?;
     while heads.len() < FIRST_HEADS {
-        heads.push_reserved(HeadWord::none());
+        heads.push_reserved(LinkWord::none());
     }
     Ok(heads)
 }
@@ -357,17 +357,21 @@ impl Chains {
         self.find_from(self.heads[bin].at(), hash)
     }
 
-    /// Returns the last position in the bin of a hash, if the bits in the bin's head are those of the hash. Takes no memory.
+    /// Returns the first position along the chain of a hash's bin to which a link with bits of the hash leads. Takes no memory.
     #[inline(always)]
     pub fn likely(&self, hash: u64) -> Option<usize>
         requires chained { AreChained self.now }
         ensures range { IfSome result (λ position. position < length self.now.records.hashes) }
     {
-        let head = &self.heads[bin_of(self.half, self.heads.len(), hash)];
-        if !head.has_bits_of(hash) {
-            return None;
+        let mut link = &self.heads[bin_of(self.half, self.heads.len(), hash)];
+        while link.at() != 0 {
+            let position = link.at() - 1;
+            if link.has_bits_of(hash) {
+                return Some(position);
+            }
+            link = self.records.link(position);
         }
-        head.at().checked_sub(1)
+        None
     }
 
     /// Returns the last position before this one that has the same hash. Takes no memory.
@@ -389,8 +393,8 @@ impl Chains {
         ensures err { OnErr result (self.new.records.hashes ≡ self.old.records.hashes) }
     {
         let bin = bin_of(self.half, self.heads.len(), hash);
-        self.records.push(hash, self.heads[bin].at())?;
-        self.heads[bin] = HeadWord::new(self.records.len(), hash);
+        self.records.push(hash, self.heads[bin].again())?;
+        self.heads[bin] = LinkWord::new(self.records.len(), hash);
         Ok(())
     }
 
@@ -423,8 +427,8 @@ impl Chains {
         }
     }
 
-    /// Returns the head of a bin that leads to this position, counted from 1, or to none.
-    fn head_to(&self, at: usize) -> HeadWord
+    /// Returns a link that leads to this position, counted from 1, or to none.
+    fn link_at(&self, at: usize) -> LinkWord
         requires few { at < MOST_POSITIONS }
         ensures { result ≡ at }
     {
@@ -434,7 +438,7 @@ impl Chains {
         } else {
             0
         };
-        HeadWord::new(at, hash)
+        LinkWord::new(at, hash)
     }
 
     /// Makes a link lead elsewhere.
@@ -443,9 +447,10 @@ impl Chains {
         requires few { at < MOST_POSITIONS }
         ensures value { Relinked link at self.old self.new }
     {
+        let to = self.link_at(at);
         match link {
-            Link::Head(bin) => self.heads[bin] = self.head_to(at),
-            Link::Next(position) => self.records.set_next(position, at),
+            Link::Head(bin) => self.heads[bin] = to,
+            Link::Next(position) => self.records.set_next(position, to),
         }
     }
 
@@ -469,7 +474,8 @@ impl Chains {
         self.relink(old_link, next);
         let new_link = self.link_to(into, position);
         let after = self.follow(new_link);
-        self.records.set_next(position, after);
+        let on = self.link_at(after);
+        self.records.set_next(position, on);
         self.relink(new_link, at);
     }
 
@@ -522,7 +528,7 @@ impl Chains {
     {
         let bins = self.heads.len();
         make_room(&mut self.heads, HEAD_BYTES)?;
-        self.heads.push_reserved(HeadWord::none());
+        self.heads.push_reserved(LinkWord::none());
         self.half = half_for(self.half, bins);
         self.part(bins);
         Ok(())
@@ -572,7 +578,7 @@ impl Chains {
         let position = self.records.len() - 1;
         let hash = self.records.hash(position);
         let bin = bin_of(self.half, self.heads.len(), hash);
-        self.heads[bin] = self.head_to(self.records.next(position));
+        self.heads[bin] = self.link_at(self.records.next(position));
         self.records.remove_last();
         hash
     }
@@ -609,10 +615,10 @@ impl Chains {
 }
 
 /// The record of one position.
-#[derive(Clone, Copy)]
+#[derive(Drop)]
 struct Record {
     hash: u64,
-    next: usize,
+    next: LinkWord,
 }
 
 const _: () = prove!(size_of::<Record>() == 16);
@@ -626,7 +632,7 @@ pub struct Records {
 impl Model for Records {
     ghost use Rattle.std.specs.Prelude.{map, length, ◌<◌};
     ghost use Rattle.bins.specs.Records.{Recorded};
-    ghost use Rattle.bins.specs.declared.heads.TheConstants.{MOST_POSITIONS};
+    ghost use Rattle.bins.specs.declared.links.TheConstants.{MOST_POSITIONS};
 
     ghost Value = { Recorded };
 
@@ -675,7 +681,16 @@ impl Records {
         ensures value { result ≡ slice_index self.now.nexts position }
         ensures few { length self.now.nexts < MOST_POSITIONS }
     {
-        self.list[position].next
+        self.list[position].next.at()
+    }
+
+    /// Returns the link from a position to the next. Takes no memory.
+    #[inline(always)]
+    pub fn link(&self, position: usize) -> &LinkWord
+        requires { position < length self.now.nexts }
+        ensures { result.now ≡ slice_index self.now.nexts position }
+    {
+        &self.list[position].next
     }
 
     /// Sets the hash of a position. Takes no memory.
@@ -688,7 +703,7 @@ impl Records {
     }
 
     /// Sets the next of a position. Takes no memory.
-    pub fn set_next(&mut self, position: usize, next: usize)
+    pub fn set_next(&mut self, position: usize, next: LinkWord)
         requires { position < length self.old.nexts }
         ensures hashes { self.new.hashes ≡ self.old.hashes }
         ensures nexts { self.new.nexts ≡ set self.old.nexts position next }
@@ -698,7 +713,7 @@ impl Records {
 
     /// Adds a position after the others. Returns `NoMemory` if memory for it is refused, or there would be `MOST_POSITIONS`; nothing changes
     /// then.
-    pub fn push(&mut self, hash: u64, next: usize) -> Result<(), NoMemory>
+    pub fn push(&mut self, hash: u64, next: LinkWord) -> Result<(), NoMemory>
         ensures ok_hashes { OnOk result (self.new.hashes ≡ self.old.hashes ++ hash ∷ []) }
         ensures ok_nexts { OnOk result (self.new.nexts ≡ self.old.nexts ++ next ∷ []) }
         ensures err { OnErr result (self.new ≡ self.old) }

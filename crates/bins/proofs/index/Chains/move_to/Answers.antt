@@ -32,5 +32,5 @@ returns-clause-linked c = λ bin new is e moved.
     (c.args.at - 1) c.args.into c.follow-after.result c.link_to-new_link.result out heads_out (omega (arith, nexts_out, c.requires.some, c.requires.range))
     c.requires.into moved.here moved.others c.follow-after.ensures.value (c.link_to-new_link.ensures.leads _ out)
     (c.relink-2.ensures.value.heads ∙ ap (λ (n : ℕ). heads_relinked c.link_to-new_link.result n c.relink.new.self.heads.items) place)
-    (c.relink-2.ensures.value.nexts ∙ ap (λ (xs : List ℕ). nexts_relinked c.link_to-new_link.result c.args.at xs) c.set_next.ensures.nexts
+    (c.relink-2.ensures.value.nexts ∙ ap (λ (xs : List ℕ). nexts_relinked c.link_to-new_link.result c.args.at xs) (c.set_next.ensures.nexts ∙ ap (set c.relink.new.self.records.nexts (c.args.at - 1)) c.link_at-on.ensures)
     ∙ ap (λ (n : ℕ). nexts_relinked c.link_to-new_link.result n (set c.relink.new.self.records.nexts (c.args.at - 1) c.follow-after.result)) place)

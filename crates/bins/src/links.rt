@@ -1,4 +1,4 @@
-//! The heads of chains.
+//! What leads from one position of a chain to the next.
 ghost use Rattle.std.specs.Prelude.{◌≡◌, ◌<◌};
 
 use std::marker::Model;
@@ -6,39 +6,39 @@ use std::marker::Model;
 /// The most positions that chains lead to: more than any memory has room for.
 pub const MOST_POSITIONS: u64 = 1 << 48;
 
-/// The head of a bin in eight bytes: its last position, counted from 1, or 0 if it has none; and beside that the highest 16 bits of the
-/// hash there. So a head mostly tells whether that position is the right one.
+/// A link of a chain in eight bytes: the position that it leads to, counted from 1, or 0 if it leads to none; and beside that the highest 16
+/// bits of the hash there. So a link mostly tells whether that position is the right one.
 #[derive(Drop)]
-pub struct HeadWord {
+pub struct LinkWord {
     word: u64,
 }
 
-const _: () = prove!(size_of::<HeadWord>() == 8);
+const _: () = prove!(size_of::<LinkWord>() == 8);
 
-impl Model for HeadWord {
+impl Model for LinkWord {
     ghost use Rattle.std.specs.Prelude.{ℕ, ◌%◌};
-    ghost use Rattle.bins.specs.declared.heads.TheConstants.{MOST_POSITIONS};
+    ghost use Rattle.bins.specs.declared.links.TheConstants.{MOST_POSITIONS};
 
     ghost Value = { ℕ };
 
-    ghost view = { λ head. head.word % MOST_POSITIONS };
+    ghost view = { λ link. link.word % MOST_POSITIONS };
 }
 
-impl HeadWord {
-    /// Returns the head of a bin that has no position.
-    pub fn none() -> HeadWord
+impl LinkWord {
+    /// Returns a link that leads to no position.
+    pub fn none() -> LinkWord
         ensures { result ≡ 0 }
     {
-        HeadWord { word: 0 }
+        LinkWord { word: 0 }
     }
 
-    /// Returns a head that leads to this position, counted from 1, or to none; the position has this hash.
+    /// Returns a link that leads to this position, counted from 1, or to none; the position has this hash.
     #[inline(always)]
-    pub fn new(at: usize, hash: u64) -> HeadWord
+    pub fn new(at: usize, hash: u64) -> LinkWord
         requires { at < MOST_POSITIONS }
         ensures { result ≡ at }
     {
-        HeadWord {
+        LinkWord {
             word: hash / MOST_POSITIONS * MOST_POSITIONS + at as u64,
         }
     }
@@ -49,6 +49,14 @@ impl HeadWord {
         ensures value { result ≡ self.now }
     {
         (self.word % MOST_POSITIONS) as usize
+    }
+
+    /// Returns the same link.
+    #[inline(always)]
+    pub fn again(&self) -> LinkWord
+        ensures { result ≡ self.now }
+    {
+        LinkWord { word: self.word }
     }
 
     /// Tests whether the bits beside the position are those of this hash.
