@@ -416,46 +416,30 @@ impl Chains {
         link
     }
 
-    /// Returns the position that a link leads to, counted from 1.
-    fn follow(&self, link: Link) -> usize
+    /// Returns where a link leads to.
+    fn follow(&self, link: Link) -> LinkWord
         requires { IsLink self.now link }
         ensures value { result ≡ follow self.now.heads.items self.now.records.nexts link }
     {
         match link {
-            Link::Head(bin) => self.heads[bin].at(),
-            Link::Next(position) => self.records.next(position),
+            Link::Head(bin) => self.heads[bin].again(),
+            Link::Next(position) => self.records.link(position).again(),
         }
     }
 
-    /// Returns a link that leads to this position, counted from 1, or to none.
-    fn link_at(&self, at: usize) -> LinkWord
-        requires few { at < MOST_POSITIONS }
-        ensures { result ≡ at }
-    {
-        let position = at.wrapping_sub(1);
-        let hash = if position < self.records.len() {
-            self.records.hash(position)
-        } else {
-            0
-        };
-        LinkWord::new(at, hash)
-    }
-
     /// Makes a link lead elsewhere.
-    fn relink(&mut self, link: Link, at: usize)
-        requires link { IsLink self.old link }
-        requires few { at < MOST_POSITIONS }
-        ensures value { Relinked link at self.old self.new }
+    fn relink(&mut self, link: Link, to: LinkWord)
+        requires { IsLink self.old link }
+        ensures value { Relinked link to self.old self.new }
     {
-        let to = self.link_at(at);
         match link {
             Link::Head(bin) => self.heads[bin] = to,
             Link::Next(position) => self.records.set_next(position, to),
         }
     }
 
-    /// Takes a position, counted from 1, out of one bin's chain and links it into another's.
-    fn move_to(&mut self, at: usize, from: usize, into: usize)
+    /// Takes a position, counted from 1, out of one bin's chain and links it into another's, as one of this hash.
+    fn move_to(&mut self, at: usize, from: usize, into: usize, hash: u64)
         requires linked { AreLinkedAt (at - 1) from self.old }
         requires some { 0 < at }
         requires range { at ≤ length self.old.records.nexts }
@@ -470,13 +454,12 @@ impl Chains {
     {
         let position = at - 1;
         let old_link = self.link_to(from, position);
-        let next = self.records.next(position);
+        let next = self.records.link(position).again();
         self.relink(old_link, next);
         let new_link = self.link_to(into, position);
         let after = self.follow(new_link);
-        let on = self.link_at(after);
-        self.records.set_next(position, on);
-        self.relink(new_link, at);
+        self.records.set_next(position, after);
+        self.relink(new_link, LinkWord::new(at, hash));
     }
 
     /// Gives a position, counted from 1, another hash: takes it out of the old hash's chain and links it into the new one's.
@@ -490,7 +473,7 @@ impl Chains {
         let bins = self.heads.len();
         let from = bin_of(self.half, bins, self.records.hash(at - 1));
         let into = bin_of(self.half, bins, hash);
-        self.move_to(at, from, into);
+        self.move_to(at, from, into, hash);
         self.records.set_hash(at - 1, hash);
     }
 
@@ -512,9 +495,10 @@ impl Chains {
         let mut at = self.heads[from].at();
         while at != 0 {
             let here = at;
+            let hash = self.records.hash(here - 1);
             at = self.records.next(here - 1);
-            if bin_of(self.half, bins, self.records.hash(here - 1)) == into {
-                self.move_to(here, from, into);
+            if bin_of(self.half, bins, hash) == into {
+                self.move_to(here, from, into, hash);
             }
         }
     }
@@ -578,7 +562,7 @@ impl Chains {
         let position = self.records.len() - 1;
         let hash = self.records.hash(position);
         let bin = bin_of(self.half, self.heads.len(), hash);
-        self.heads[bin] = self.link_at(self.records.next(position));
+        self.heads[bin] = self.records.link(position).again();
         self.records.remove_last();
         hash
     }
@@ -678,8 +662,7 @@ impl Records {
     #[inline(always)]
     pub fn next(&self, position: usize) -> usize
         requires { position < length self.now.nexts }
-        ensures value { result ≡ slice_index self.now.nexts position }
-        ensures few { length self.now.nexts < MOST_POSITIONS }
+        ensures { result ≡ slice_index self.now.nexts position }
     {
         self.list[position].next.at()
     }
@@ -688,7 +671,8 @@ impl Records {
     #[inline(always)]
     pub fn link(&self, position: usize) -> &LinkWord
         requires { position < length self.now.nexts }
-        ensures { result.now ≡ slice_index self.now.nexts position }
+        ensures value { result.now ≡ slice_index self.now.nexts position }
+        ensures few { length self.now.nexts < MOST_POSITIONS }
     {
         &self.list[position].next
     }

@@ -8,7 +8,7 @@ pub returns : goal.returns
 returns c =
     let is = c.requires.chained in
     let within = bin_within c.args.self.now.half (length c.args.self.now.heads.items) (slice_index c.args.self.now.records.hashes c.args.position) is.spread in
-    let last = last_at (bins_of c.args.self.now.half (length c.args.self.now.heads.items) c.args.self.now.records.hashes) _ _ _ _ (sym c.next.ensures.value) (is.links.at_nexts c.args.position c.requires.range within) in
+    let last = last_at (bins_of c.args.self.now.half (length c.args.self.now.heads.items) c.args.self.now.records.hashes) _ _ _ _ (sym c.next.ensures) (is.links.at_nexts c.args.position c.requires.range within) in
     record {
       value = c.find_from.ensures.value c.args.position (omega (arith, c.requires.range))
           (last_in (bins_of c.args.self.now.half (length c.args.self.now.heads.items) c.args.self.now.records.hashes) _ _ _ _

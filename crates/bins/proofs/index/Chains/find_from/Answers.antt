@@ -27,9 +27,9 @@ loop-at-preserved c =
     let bin : ℕ → ℕ = bins_of c.args.self.now.half (length c.args.self.now.heads.items) c.args.self.now.records.hashes in
     let within = bin_within c.args.self.now.half (length c.args.self.now.heads.items) (slice_index c.args.self.now.records.hashes (c.loop-at.at - 1)) c.requires.chained.spread in
     let differs : slice_index c.args.self.now.records.hashes (c.loop-at.at - 1) ≢ c.args.hash = λ same. c.if-hash.false (c.hash.ensures ∙ same) in
-    let last = last_at (bins_of c.args.self.now.half (length c.args.self.now.heads.items) c.args.self.now.records.hashes) _ _ _ _ (sym c.next-at.ensures.value) (links.at_nexts (c.loop-at.at - 1) low within) in
+    let last = last_at (bins_of c.args.self.now.half (length c.args.self.now.heads.items) c.args.self.now.records.hashes) _ _ _ _ (sym c.next-at.ensures) (links.at_nexts (c.loop-at.at - 1) low within) in
     record {
-      range = omega (arith, c.next-at.ensures.value, links.falls (c.loop-at.at - 1) low, before.range, pos);
+      range = omega (arith, c.next-at.ensures, links.falls (c.loop-at.at - 1) low, before.range, pos);
       passed = λ n le first. passed_on (bins_of c.args.self.now.half (length c.args.self.now.heads.items) c.args.self.now.records.hashes) c.args.self.now.records.hashes c.args.hash
           (bin_of c.args.self.now.half (length c.args.self.now.heads.items) c.args.hash) n c.loop-at.at c.next-at.result
           (λ j e. ap (bin_of c.args.self.now.half (length c.args.self.now.heads.items)) e) pos differs last (before.passed n le first);

@@ -9,7 +9,7 @@ loop-link-preserved c =
     let far : c.args.position + 1 < c.loop-link.at = omega (arith, c.loop-link-test.true, c.saturating_sub.ensures) in
     let on = reach_on c.requires.linked.0 _ _ _ _ _ links c.requires.bin _ _ before.leads (before.reached _ links) far in
     record {
-      leads = c.next-at.ensures.value;
+      leads = c.next-at.ensures;
       is_link = on.1;
       reached = λ bins is. reach_on bins _ _ _ _ _ is c.requires.bin _ _ before.leads (before.reached bins is) far;
     }

@@ -43,7 +43,7 @@ next_last c =
     to_come old new c.loop-at.at (c.loop-at.at - 1) (omega (arith, pos)) ∙ before.there pos in
     let high : c.loop-at.at - 1 < length c.loop-at.self.records.nexts = omega (arith, pos, before.range) in
     let in_range : between old new c.loop-at.at (c.loop-at.at - 1) < length c.loop-at.self.heads.items = omega (arith, there, before.bins, c.requires.bins) in
-    last_at (between old new c.loop-at.at) (c.loop-at.at - 1) (c.args.into - c.args.self.now.half) _ _ (sym c.next-at.ensures.value)
+    last_at (between old new c.loop-at.at) (c.loop-at.at - 1) (c.args.into - c.args.self.now.half) _ _ (sym c.next-at.ensures)
     (last_in (between old new c.loop-at.at) (c.loop-at.at - 1) _ _ _ there (before.linked.at_nexts (c.loop-at.at - 1) high in_range))
 
 -- the bin that was computed
@@ -51,8 +51,8 @@ bin_is : (c : After-bin_of) → c.bin_of.result ≡ bins_of c.args.self.now.half
 bin_is c =
     let before = c.loop-at.invariant in
     let bins : c.len-bins.result ≡ c.args.into + 1 = c.len-bins.ensures ∙ c.args.self.now.heads.ok.0 ∙ c.requires.bins in
-    c.bin_of.ensures.value ∙ ap (λ (n : ℕ). bin_of n c.len-bins.result c.hash.result) before.half ∙ ap (λ (n : ℕ). bin_of c.args.self.now.half n c.hash.result) bins
-    ∙ ap (bin_of c.args.self.now.half (c.args.into + 1)) (c.hash.ensures ∙ ap (λ (xs : List ℕ). slice_index xs (c.loop-at.at - 1)) before.hashes)
+    c.bin_of.ensures.value ∙ ap (λ (n : ℕ). bin_of n c.len-bins.result c.hash-hash.result) before.half ∙ ap (λ (n : ℕ). bin_of c.args.self.now.half n c.hash-hash.result) bins
+    ∙ ap (bin_of c.args.self.now.half (c.args.into + 1)) (c.hash-hash.ensures ∙ ap (λ (xs : List ℕ). slice_index xs (c.loop-at.at - 1)) before.hashes)
 
 pub loop-at-preserved-then-bin_of-into : goal.loop-at-preserved-then-bin_of-into
 loop-at-preserved-then-bin_of-into c =
