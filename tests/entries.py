@@ -50,7 +50,7 @@ COPYING += bytes.fromhex("b700000060000000 9500000000000000")
 KEYS = 20_000
 # A Get among this many entries lacks at most this many lines of a cache of 1 MiB. If it read a record each time, it would lack 2.8, and with the
 # location of each row 4.3.
-LINED, LACKED = 100_000, 2.6
+LINED, LACKED = 100_000, 2.4
 # entries of a search, and how many instructions it may take for each
 SEARCHED, PASSED = 100_000, 100
 MEBIBYTE = 1 << 20
