@@ -308,21 +308,20 @@ fn value_at(rows: &Rows, position: usize) -> &[u8]
     rows.value(position)
 }
 
-/// The value at a position, if the key stands there.
-#[inline(always)]
-fn found_at<'a>(rows: &'a Rows, position: usize, key: &Key) -> Option<Found<'a>>
-    requires { position < length rows.now.keys }
-    ensures position { IfSome result (λ found. found.position ≡ position) }
-    ensures found { IfSome result (λ found. string_at rows.now.keys position ≡ key.now) }
-    ensures value { IfSome result (λ found. found.value.now ≡ string_at rows.now.values position) }
-    ensures fits { IfSome result (λ found. length found.value.now ≤ VALUE_BYTES) }
-    ensures absent { IfNone result (string_at rows.now.keys position ≢ key.now) }
+/// The position of the key with this hash, by whole hashes. It is separate, since a search that finds its key seldom needs it.
+#[inline(never)]
+fn position_by_hash(index: &Index, rows: &Rows, key: &Key, hash: u64) -> Option<usize>
+    requires index { index.now.hashes ≡ map (mixed index.now.seed) rows.now.keys }
+    requires hash { hash ≡ mixed index.now.seed key.now }
+    ensures bound { IfSome result (λ position. position < length rows.now.keys) }
+    ensures found { IfSome result (HoldsAt (λ k. k ≡ key.now) rows.now.keys) }
+    ensures absent { IfNone result (AllWithin (λ k. k ≢ key.now) rows.now.keys 0 (length rows.now.keys)) }
 {
-    let (stored, value) = rows.entry(position);
-    if are_same(stored, key.as_slice()) {
-        return Some(Found { position, value });
+    let last = index.last(hash)?;
+    if is_at(rows, last, key.as_slice()) {
+        return Some(last);
     }
-    None
+    position_before(index, rows, key, hash, last)
 }
 
 /// Where the key with this hash is found.
@@ -336,20 +335,15 @@ fn found_with<'a>(index: &Index, rows: &'a Rows, key: &Key, hash: u64) -> Option
     ensures fits { IfSome result (λ found. length found.value.now ≤ VALUE_BYTES) }
     ensures absent { IfNone result (AllWithin (λ k. k ≢ key.now) rows.now.keys 0 (length rows.now.keys)) }
 {
-    if let Some(likely) = index.likely(hash)
-        && let Some(found) = found_at(rows, likely, key)
-    {
-        return Some(found);
-    }
-    let last = index.last(hash)?;
-    match found_at(rows, last, key) {
-        Some(found) => Some(found),
-        None => {
-            let position = position_before(index, rows, key, hash, last)?;
-            let value = value_at(rows, position);
-            Some(Found { position, value })
+    if let Some(position) = index.likely(hash) {
+        let (stored, value) = rows.entry(position);
+        if are_same(stored, key.as_slice()) {
+            return Some(Found { position, value });
         }
     }
+    let position = position_by_hash(index, rows, key, hash)?;
+    let value = value_at(rows, position);
+    Some(Found { position, value })
 }
 
 /// Where the tree finds a key.
