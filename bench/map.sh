@@ -4,12 +4,12 @@
 # nine times in turn, and prints the medians. Where it compares two it prints the least times too, since what else the machine does only
 # adds to a time. (Of calls by several threads they say little: threads that happen to run one after the other don't wait for each
 # other.) By hand, not by the gate. It takes some minutes, since each start with a million keys enters them first, and it stops after
-# seven. If a program is built, it takes longer, since all below it is proved first.
+# eight. If a program is built, it takes longer, since all below it is proved first.
 source "$(dirname "$0")/common.sh"
 rounds=9
 SECONDS=0
 # seconds that all may take, and one run
-all_seconds=420
+all_seconds=480
 run_seconds=30
 
 gcc -O2 -pthread -o "$work/table" bench/table.c

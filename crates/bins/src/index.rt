@@ -4,8 +4,8 @@
 //! ends a chain. So positions fall along a chain, and the hashes alone determine the heads and the nexts (`AreChained` of
 //! `specs/Chains.antt`). Bins are added one at a time: a new bin takes its positions out of the chain of one bin, and the
 //! other chains stay as they are. So no call is held up while the bins grow. The hash of a position and its next lie side by
-//! side, so a search finds both in one cache line. Heads and nexts have some bits of the hash where they lead to, so they mostly tell a
-//! search which position is the right one, and it needn't read what is kept of that one here.
+//! side, so a search finds both in one cache line. Heads and nexts have some bits of the hash at the position that they lead to. So a
+//! search mostly knows the right position before it reads that one's record.
 ghost use Rattle.std.specs.Prelude.{◌≡◌, ◌<◌, ◌*◌, ◌++◌, [], ◌∷◌, length, slice_index, IfOk, IfSome, OnOk, OnErr, ◌≤◌, ◌+◌, ◌-◌, ℕ, set, IsTrue, take};
 ghost use Rattle.std.specs.List.{swap_remove};
 ghost use Rattle.bins.specs.Chains.{IsCrowded, IsLastOf, MayDouble, AreChained, AreLinked, AreLinkedAt, AreLinkedBy, AreSpread, IsLast, IsLink, IsLinkTo, Moved, Relinked, bin_in, bin_of, bins_of, follow, position_bin};
@@ -393,7 +393,7 @@ impl Chains {
         ensures err { OnErr result (self.new.records.hashes ≡ self.old.records.hashes) }
     {
         let bin = bin_of(self.half, self.heads.len(), hash);
-        self.records.push(hash, self.heads[bin].again())?;
+        self.records.push(hash, self.heads[bin].copied())?;
         self.heads[bin] = LinkWord::new(self.records.len(), hash);
         Ok(())
     }
@@ -422,8 +422,8 @@ impl Chains {
         ensures value { result ≡ follow self.now.heads.items self.now.records.nexts link }
     {
         match link {
-            Link::Head(bin) => self.heads[bin].again(),
-            Link::Next(position) => self.records.link(position).again(),
+            Link::Head(bin) => self.heads[bin].copied(),
+            Link::Next(position) => self.records.link(position).copied(),
         }
     }
 
@@ -454,7 +454,7 @@ impl Chains {
     {
         let position = at - 1;
         let old_link = self.link_to(from, position);
-        let next = self.records.link(position).again();
+        let next = self.records.link(position).copied();
         self.relink(old_link, next);
         let new_link = self.link_to(into, position);
         let after = self.follow(new_link);
@@ -562,7 +562,7 @@ impl Chains {
         let position = self.records.len() - 1;
         let hash = self.records.hash(position);
         let bin = bin_of(self.half, self.heads.len(), hash);
-        self.heads[bin] = self.records.link(position).again();
+        self.heads[bin] = self.records.link(position).copied();
         self.records.remove_last();
         hash
     }

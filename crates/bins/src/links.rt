@@ -3,7 +3,7 @@ ghost use Rattle.std.specs.Prelude.{◌≡◌, ◌<◌};
 
 use std::marker::Model;
 
-/// The most positions that chains lead to: more than any memory has room for.
+/// There are fewer positions than this: no memory has room for as many.
 pub const MOST_POSITIONS: u64 = 1 << 48;
 
 /// A link of a chain in eight bytes: the position that it leads to, counted from 1, or 0 if it leads to none; and beside that the highest 16
@@ -53,7 +53,7 @@ impl LinkWord {
 
     /// Returns the same link.
     #[inline(always)]
-    pub fn again(&self) -> LinkWord
+    pub fn copied(&self) -> LinkWord
         ensures { result ≡ self.now }
     {
         LinkWord { word: self.word }

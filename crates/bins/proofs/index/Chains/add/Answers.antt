@@ -12,7 +12,7 @@ returns-clause-chained c =
     c.bin_of-bin.ensures.value ∙ ap (λ (n : ℕ). bin_of c.args.self.now.half n c.args.hash) bins in
     let range : c.bin_of-bin.result < length c.args.self.now.heads.items = subst (λ (n : ℕ). c.bin_of-bin.result < n) bins c.bin_of-bin.ensures.range in
     let pushed = c.in_ok-push.ensures.ok_hashes in
-    let read = c.again.ensures ∙ get_or_read c.args.self.now.heads.items c.bin_of-bin.result c.index.result.now range c.index.ensures 0 in
+    let read = c.copied.ensures ∙ get_or_read c.args.self.now.heads.items c.bin_of-bin.result c.index.result.now range c.index.ensures 0 in
     let next_pushed = c.in_ok-push.ensures.ok_nexts ∙ ap (λ (x : ℕ). c.args.self.now.records.nexts ++ x ∷ []) read in
     record {
       spread = subst (AreSpread c.args.self.now.half) (sym (length-set c.args.self.now.heads.items c.bin_of-bin.result c.new.result)) before.spread;

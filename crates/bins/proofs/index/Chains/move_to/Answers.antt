@@ -7,8 +7,8 @@ use Rattle.bins.proofs.index.Chains.move_to.Goals.{After-relink}
 -- the position was taken out of its chain
 taken_out : (c : After-relink) (bin : ℕ → ℕ) → Links bin (length c.args.self.now.records.nexts) c.args.self.now.heads.items c.args.self.now.records.nexts → bin (c.args.at - 1) ≡ c.args.from
     → Links (hidden bin (c.args.at - 1) (length c.args.self.now.heads.items)) (length c.relink.new.self.records.nexts) c.relink.new.self.heads.items c.relink.new.self.records.nexts
-taken_out c bin is e = moved_out bin c.args.self.now.heads.items c.args.self.now.records.nexts c.relink.new.self.heads.items c.relink.new.self.records.nexts (c.args.at - 1) c.args.from c.again-next.result c.link_to-old_link.result
-    is (omega (arith, c.requires.some, c.requires.range)) e c.requires.from (c.again-next.ensures ∙ c.link.ensures.value) (c.link_to-old_link.ensures.leads bin is) c.relink.ensures.value.heads c.relink.ensures.value.nexts
+taken_out c bin is e = moved_out bin c.args.self.now.heads.items c.args.self.now.records.nexts c.relink.new.self.heads.items c.relink.new.self.records.nexts (c.args.at - 1) c.args.from c.copied-next.result c.link_to-old_link.result
+    is (omega (arith, c.requires.some, c.requires.range)) e c.requires.from (c.copied-next.ensures ∙ c.link.ensures.value) (c.link_to-old_link.ensures.leads bin is) c.relink.ensures.value.heads c.relink.ensures.value.nexts
 
 pub link_to-old_link-requires-clause-linked : goal.link_to-old_link-requires-clause-linked
 link_to-old_link-requires-clause-linked c = (c.requires.linked.0, c.requires.linked.1)
@@ -23,9 +23,9 @@ link_to-new_link-requires-clause-linked c = (
 pub returns-clause-linked : goal.returns-clause-linked
 returns-clause-linked c = λ bin new is e moved.
     let heads_out : length c.relink.new.self.heads.items ≡ length c.args.self.now.heads.items =
-    ap length c.relink.ensures.value.heads ∙ length-heads_relinked c.link_to-old_link.result c.again-next.result c.args.self.now.heads.items in
+    ap length c.relink.ensures.value.heads ∙ length-heads_relinked c.link_to-old_link.result c.copied-next.result c.args.self.now.heads.items in
     let nexts_out : length c.relink.new.self.records.nexts ≡ length c.args.self.now.records.nexts =
-    ap length c.relink.ensures.value.nexts ∙ length-nexts_relinked c.link_to-old_link.result c.again-next.result c.args.self.now.records.nexts in
+    ap length c.relink.ensures.value.nexts ∙ length-nexts_relinked c.link_to-old_link.result c.copied-next.result c.args.self.now.records.nexts in
     let out = taken_out (goal.at.returns-clause-linked c).After-relink bin is e in
     let place : c.new.result ≡ c.args.at - 1 + 1 = c.new.ensures ∙ omega (arith, c.requires.some) in
     moved_in bin new (length c.args.self.now.heads.items) c.relink.new.self.heads.items c.relink.new.self.records.nexts c.relink-2.new.self.heads.items c.relink-2.new.self.records.nexts

@@ -25,12 +25,12 @@ returns-clause-chained c =
     ∙ ap (bin_of c.args.self.now.half (length c.args.self.now.heads.items)) c.hash-hash.ensures in
     let range : c.bin_of-bin.result < length c.args.self.now.heads.items = subst (λ (n : ℕ). c.bin_of-bin.result < n) bins c.bin_of-bin.ensures.range in
     record {
-      spread = subst (AreSpread c.args.self.now.half) (sym (length-set c.args.self.now.heads.items c.bin_of-bin.result c.again.result)) before.spread;
+      spread = subst (AreSpread c.args.self.now.half) (sym (length-set c.args.self.now.heads.items c.bin_of-bin.result c.copied.result)) before.spread;
       long = ap length (nexts_cut c) ∙ length-take-le (c.len-position.result - 1) c.args.self.now.records.nexts (omega (arith, many, before.long))
           ∙ sym (ap length (hashes_cut c) ∙ length-take-le (c.len-position.result - 1) c.args.self.now.records.hashes (omega (arith, many)));
       links = links_taken c.args.self.now.half c.bin_of-bin.result (c.len-position.result - 1) c.args.self.now.heads.items c.args.self.now.records.hashes c.args.self.now.records.nexts
-          c.remove_last.new.self.hashes c.remove_last.new.self.nexts (set c.args.self.now.heads.items c.bin_of-bin.result c.again.result)
-          before.links before.long many bin range (hashes_cut c) (nexts_cut c) (ap (set c.args.self.now.heads.items c.bin_of-bin.result) (c.again.ensures ∙ c.link.ensures.value));
+          c.remove_last.new.self.hashes c.remove_last.new.self.nexts (set c.args.self.now.heads.items c.bin_of-bin.result c.copied.result)
+          before.links before.long many bin range (hashes_cut c) (nexts_cut c) (ap (set c.args.self.now.heads.items c.bin_of-bin.result) (c.copied.ensures ∙ c.link.ensures.value));
     }
 
 pub returns-clause-hashes : goal.returns-clause-hashes
